@@ -17,7 +17,7 @@ use Rattle.call_allowance.specs.Allows.{allows_over, allows_every, allows_short,
 use Rattle.call_allowance.proofs.of_case.Goals as goal
 
 pub ranges_of-ranges-requires : goal.ranges_of-ranges-requires
-ranges_of-ranges-requires c = let h = c.requires.holds in (h.some-elements, h.few-elements, h.sound.types-le, omega (arith, h.sound.types-le, h.members-are.room))
+ranges_of-ranges-requires c = let h = c.requires.holds in (h.some_elements, h.few_elements, h.sound.types_le, omega (arith, h.sound.types_le, h.members_are.room))
 
 pub relations_of-g-requires : goal.relations_of-g-requires
 relations_of-g-requires c = declared _ _ _ _ c.requires.holds
@@ -26,7 +26,7 @@ pub nodes_of-t-requires : goal.nodes_of-t-requires
 nodes_of-t-requires c = rule_fine _ _ _ _ c.requires.holds
 
 pub of_tables-m-requires : goal.of_tables-m-requires
-of_tables-m-requires c = let h = c.requires.holds in (h.some-elements, h.few-elements, c.relations_of-g.ensures.0, c.nodes_of-t.ensures.fits, c.ranges_of-ranges.ensures.0)
+of_tables-m-requires c = let h = c.requires.holds in (h.some_elements, h.few_elements, c.relations_of-g.ensures.0, c.nodes_of-t.ensures.fits, c.ranges_of-ranges.ensures.0)
 
 pub returns-then-k-ne0 : goal.returns-then-k-ne0
 returns-then-k-ne0 c =
@@ -50,16 +50,13 @@ returns-then-out-count c =
     allows_short usual _ site _ _ facts read z (within_usual x _ T _ c.usual_limits.ensures _ c.refusal-k.ensures c.if-k-ne0.false) _ (every_told x _ T) (omega arith) c.if-m.false c.if-out-count.true
 
 pub overflow_add-sig : goal.overflow_add-sig
-overflow_add-sig c = omega (arith, c.requires.holds.sound.rels-le)
+overflow_add-sig c = omega (arith, c.requires.holds.sound.rels_le)
 
 pub slice_bounds-write-end-2 : goal.slice_bounds-write-end-2
 slice_bounds-write-end-2 c = sym (length-take-le _ _ (omega arith))
 
 pub write-requires : goal.write-requires
-write-requires c =
-    let s = c.requires in
-    let l = length-take-le c.args.o.sig.chosen c.args.out.now (omega arith) in let h = s.holds in
-    (h.some-elements, omega (arith, h.few-elements), c.nodes_of-t.ensures.fits, omega (arith, l, h.sound.rels-le, h.sound.chosen-le))
+write-requires c = let s = c.requires in let l = length-take-le c.args.o.sig.chosen c.args.out.now (omega arith) in let h = s.holds in (h.some_elements, omega (arith, h.few_elements), c.nodes_of-t.ensures.fits, omega (arith, l, h.sound.rels_le, h.sound.chosen_le))
 
 pub returns : goal.returns
 returns c =

@@ -3,10 +3,10 @@ use Rattle.call_build.specs.Calls.{call_text_refused, call_text}
 use Rattle.call_build.proofs.build_listed.Goals as goal
 
 pub picks-a-requires : goal.picks-a-requires
-picks-a-requires c = let p = c.requires in let h = p.0.0.held.holds in ((h.sound, h.few-elements, p.1.0, p.1.1), p.0.2)
+picks-a-requires c = let p = c.requires in let h = p.ready_front.0.held.holds in record { sound_signature = (h.sound, h.few_elements, p.picks_room.0, p.picks_room.1); labels_are = p.ready_front.2 }
 
 pub build_picks-requires : goal.build_picks-requires
-build_picks-requires c = let p = c.requires.ready_front in ((_, p.0), p.1)
+build_picks-requires c = let p = c.requires.ready_front in record { by_index = (_, p.0); atoms_bound = p.1 }
 
 pub returns-in-Refused : goal.returns-in-Refused
 returns-in-Refused c = λ L filed z few. call_text_refused L _ _ _ _ _ _ filed z _ _ _ _ _ c.picks-a.ensures _ _ c.in-Refused.is

@@ -14,7 +14,7 @@ returns-then-m-ne0 c =
 }
 
 pub picks_length-held-requires : goal.picks_length-held-requires
-picks_length-held-requires c = let r = c.requires.by_index.1 in (tabled r.limits-are r.case _ _ r.held.grounded c.if-m-ne0.false).fits
+picks_length-held-requires c = let r = c.requires.by_index.1 in (tabled r.limits_are r.case _ _ r.held.grounded c.if-m-ne0.false).fits
 
 pub returns-then-picks-held : goal.returns-then-picks-held
 returns-then-picks-held c =
@@ -47,15 +47,14 @@ returns-then-steps-bound c =
     }
 
 pub spare_word-s-requires : goal.spare_word-s-requires
-spare_word-s-requires c = let r = c.requires.by_index.1 in (tabled r.limits-are r.case _ _ r.held.grounded c.if-m-ne0.false).fits
+spare_word-s-requires c = let r = c.requires.by_index.1 in (tabled r.limits_are r.case _ _ r.held.grounded c.if-m-ne0.false).fits
 
 pub slice_bounds-start_and_build-end : goal.slice_bounds-start_and_build-end
 slice_bounds-start_and_build-end c = sym (length-take-le _ _ (omega arith))
 
 pub start_and_build-a-requires : goal.start_and_build-a-requires
 start_and_build-a-requires c =
-    let r = c.requires.by_index.1 in
-    let t = tabled r.limits-are r.case _ _ r.held.grounded c.if-m-ne0.false in
+    let r = c.requires.by_index.1 in let t = tabled r.limits_are r.case _ _ r.held.grounded c.if-m-ne0.false in
     (t.fits, t.ends ∙ sym t.atoms_are, c.requires.atoms_bound c.if-m-ne0.false, omega (arith, c.if-state-words.false))
 
 pub returns-in-Word : goal.returns-in-Word
@@ -71,10 +70,10 @@ returns-in-Word c =
 pub returns-in-Clear : goal.returns-in-Clear
 returns-in-Clear c =
     record {
-      fit = λ j. omega (arith, c.type_inv.picks j);
+      fit = λ j. omega (arith, c.type_inv.table j);
       builds = λ L few q site given x e h old F handed.
           let is = (tabled L x.case _ _ h.grounded c.if-m-ne0.false).is in
           builds_built L q site given _ _ x e _ _ _ h _ old F handed c.if-m-ne0.false _ (c.picks_length-held.ensures.picks _ is)
-          (omega (arith, c.if-picks-held.false)) (omega (arith, c.if-state-words.false)) (omega (arith, c.if-steps-bound.false)) _
+          (omega (arith, c.if-picks-held.false)) (omega (arith, c.if-state-words.false)) (omega (arith, c.if-state-words.false)) _
           (c.spare_word-s.ensures _ is) c.in-Clear.is few _ _ _ (c.start_and_build-a.ensures x.case F) _ c.reply_of.ensures;
     }

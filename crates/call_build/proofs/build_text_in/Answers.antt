@@ -11,29 +11,19 @@ use borrow.Author.Rules.{rules}
 use Rattle.call_build.proofs.build_text_in.Goals as goal
 
 pub open_usual-f-requires : goal.open_usual-f-requires
-open_usual-f-requires c = let p = c.requires in ((p.0, no_label_words, p.1), (search rules, most_zeros table_length 0))
+open_usual-f-requires c = let p = c.requires in record { facts_room = (p.0, no_label_words, p.1); table_len = (search rules, most_zeros table_length 0) }
 
 pub returns-then-f-ne0 : goal.returns-then-f-ne0
 returns-then-f-ne0 c = call_case usual _ _ _ _ _ (filed_alone _ _ _ _ _ _ _ c.open_usual-f.ensures) _ _ _ c.if-f-ne0.true
 
 pub build_listed-requires : goal.build_listed-requires
-build_listed-requires c =
-    let z = c.if-f-ne0.false in
-    let filed = c.open_usual-f.ensures in let opens = filed_alone _ _ _ _ _ _ _ filed in (
-      (front_ready usual _ _ _ _ _ opens (omega arith) (omega arith) z, few_atoms usual _ _ _ _ _ opens z, labels_said usual _ _ _ _ _ _ filed z),
-      (picks_asked usual _ _ _ _ _ opens z 16 256 c.if-o-le-SMALL_SIZE.true few_picks, zeros_clear 256),
-    )
+build_listed-requires c = let z = c.if-f-ne0.false in let filed = c.open_usual-f.ensures in let opens = filed_alone _ _ _ _ _ _ _ filed in record { ready_front = (front_ready usual _ _ _ _ _ opens (omega arith) (omega arith) z, few_atoms usual _ _ _ _ _ opens z, labels_said usual _ _ _ _ _ _ filed z); picks_room = (picks_asked usual _ _ _ _ _ opens z 16 256 c.if-o-le-SMALL_SIZE.true few_picks, zeros_clear 256) }
 
 pub returns-then-o-le-SMALL_SIZE : goal.returns-then-o-le-SMALL_SIZE
 returns-then-o-le-SMALL_SIZE c = c.build_listed.ensures usual c.open_usual-f.ensures c.if-f-ne0.false (omega arith)
 
 pub build_listed-requires-2 : goal.build_listed-requires-2
-build_listed-requires-2 c =
-    let z = c.if-f-ne0.false in
-    let filed = c.open_usual-f.ensures in let opens = filed_alone _ _ _ _ _ _ _ filed in (
-      (front_ready usual _ _ _ _ _ opens (omega arith) (omega arith) z, few_atoms usual _ _ _ _ _ opens z, labels_said usual _ _ _ _ _ _ filed z),
-      (picks_asked usual _ _ _ _ _ opens z 64 16384 (few_elements usual _ _ _ _ _ opens z) many_picks, zeros_clear 16384),
-    )
+build_listed-requires-2 c = let z = c.if-f-ne0.false in let filed = c.open_usual-f.ensures in let opens = filed_alone _ _ _ _ _ _ _ filed in record { ready_front = (front_ready usual _ _ _ _ _ opens (omega arith) (omega arith) z, few_atoms usual _ _ _ _ _ opens z, labels_said usual _ _ _ _ _ _ filed z); picks_room = (picks_asked usual _ _ _ _ _ opens z 64 16384 (few_elements usual _ _ _ _ _ opens z) many_picks, zeros_clear 16384) }
 
 pub returns : goal.returns
 returns c = c.build_listed-2.ensures usual c.open_usual-f.ensures c.if-f-ne0.false (omega arith)

@@ -10,7 +10,7 @@ use borrow.Author.Rules.{rules}
 use Rattle.call_build_layers.proofs.build_lent_in.Goals as goal
 
 pub open_case-f-requires : goal.open_case-f-requires
-open_case-f-requires c = (c.requires, (search rules, most_zeros table_length 0))
+open_case-f-requires c = record { facts_room = c.requires; table_len = (search rules, most_zeros table_length 0) }
 
 pub returns-then-f-ne0 : goal.returns-then-f-ne0
 returns-then-f-ne0 c = call_case usual _ _ _ _ _ c.open_case-f.ensures _ _ _ _ c.if-f-ne0.true
@@ -19,7 +19,7 @@ pub upper_number-upper-requires : goal.upper_number-upper-requires
 upper_number-upper-requires c = let r = front_ready usual _ _ _ _ _ c.open_case-f.ensures (omega arith) (omega arith) c.if-f-ne0.false in record { case = r.case; facts = _; holds = r.held.holds }
 
 pub build_picks-requires : goal.build_picks-requires
-build_picks-requires c = ((_, front_ready usual _ _ _ _ _ c.open_case-f.ensures (omega arith) (omega arith) c.if-f-ne0.false), few_atoms usual _ _ _ _ _ c.open_case-f.ensures c.if-f-ne0.false)
+build_picks-requires c = record { by_index = (_, front_ready usual _ _ _ _ _ c.open_case-f.ensures (omega arith) (omega arith) c.if-f-ne0.false); atoms_bound = few_atoms usual _ _ _ _ _ c.open_case-f.ensures c.if-f-ne0.false }
 
 pub returns : goal.returns
 returns c = call_lent usual _ _ _ _ _ c.open_case-f.ensures c.if-f-ne0.false (omega arith) _ _ _ _ _ c.upper_number-upper.ensures _ _ _ _ c.build_picks.ensures

@@ -10,9 +10,7 @@ pub returns-then-m-ne0 : goal.returns-then-m-ne0
 returns-then-m-ne0 c = λ L q s g opens z t. call_over L q s g _ _ _ _ opens z _ t c.if-m-ne0.true
 
 pub overflow_add-words : goal.overflow_add-words
-overflow_add-words c =
-    let h = c.requires.1 in
-    omega (arith, h.atoms-few, atoms_few h.limits-are h.case _ _ h.held.grounded c.if-m-ne0.false)
+overflow_add-words c = let h = c.requires.1 in omega (arith, h.atoms_few, atoms_few h.limits_are h.case _ _ h.held.grounded c.if-m-ne0.false)
 
 pub returns-then-state-words : goal.returns-then-state-words
 returns-then-state-words c = λ L q s g opens z t. call_short L q s g _ _ _ _ opens z _ t c.if-m-ne0.false c.if-state-words.true
@@ -21,11 +19,7 @@ pub slice_bounds-start_and_run-end-2 : goal.slice_bounds-start_and_run-end-2
 slice_bounds-start_and_run-end-2 c = sym (length-take-le _ _ (omega arith))
 
 pub start_and_run-e-requires : goal.start_and_run-e-requires
-start_and_run-e-requires c =
-    let h = c.requires.1 in let o = c.if-m-ne0.false in
-    (table_is h.limits-are h.case _ _ h.held.grounded o, words_fit h.limits-are h.case _ _ h.held.grounded o _ (sym (length-take-le _ _ (omega arith))))
+start_and_run-e-requires c = let h = c.requires.1 in let o = c.if-m-ne0.false in record { grounded = table_is h.limits_are h.case _ _ h.held.grounded o; table_in_bounds = words_fit h.limits_are h.case _ _ h.held.grounded o _ (sym (length-take-le _ _ (omega arith))) }
 
 pub returns : goal.returns
-returns c =
-    let o = c.if-m-ne0.false in
-    λ L q s g opens z t. call_ran L q s g _ _ _ _ opens z _ t o (omega arith) _ _ _ _ c.start_and_run-e.ensures refl c.reply_of.ensures
+returns c = let o = c.if-m-ne0.false in λ L q s g opens z t. call_ran L q s g _ _ _ _ opens z _ t o (omega arith) _ _ _ _ c.start_and_run-e.ensures refl c.reply_of.ensures

@@ -13,9 +13,7 @@ pub returns-then-f-ne0 : goal.returns-then-f-ne0
 returns-then-f-ne0 c = λ L q s opens z t. call_every L q s _ _ _ _ _ _ opens z t c.if-m-ne0.false c.if-f-ne0.true
 
 pub overflow_add-words : goal.overflow_add-words
-overflow_add-words c =
-    let h = c.requires.by_index.1 in
-    omega (arith, h.atoms-few, atoms_few h.limits-are h.case _ _ h.held.grounded c.if-m-ne0.false)
+overflow_add-words c = let h = c.requires.by_index.1 in omega (arith, h.atoms_few, atoms_few h.limits_are h.case _ _ h.held.grounded c.if-m-ne0.false)
 
 pub returns-then-state-words : goal.returns-then-state-words
 returns-then-state-words c = λ L q s opens z t. call_short L q s _ _ _ _ _ _ opens z t c.if-m-ne0.false c.if-f-ne0.false c.if-state-words.true
@@ -24,11 +22,7 @@ pub slice_bounds-start_and_run_layers-end-2 : goal.slice_bounds-start_and_run_la
 slice_bounds-start_and_run_layers-end-2 c = sym (length-take-le _ _ (omega arith))
 
 pub start_and_run_layers-e-requires : goal.start_and_run_layers-e-requires
-start_and_run_layers-e-requires c =
-    let h = c.requires.by_index.1 in let o = c.if-m-ne0.false in (
-      table_is h.limits-are h.case _ _ h.held.grounded o,
-      (words_fit h.limits-are h.case _ _ h.held.grounded o _ (sym (length-take-le _ _ (omega arith))), c.requires.are_ends),
-    )
+start_and_run_layers-e-requires c = let h = c.requires.by_index.1 in let o = c.if-m-ne0.false in record { grounded = table_is h.limits_are h.case _ _ h.held.grounded o; table_in_bounds = words_fit h.limits_are h.case _ _ h.held.grounded o _ (sym (length-take-le _ _ (omega arith))); are_ends = c.requires.are_ends }
 
 pub returns : goal.returns
 returns c =

@@ -7,6 +7,7 @@ use Rattle.open_case.specs.Known.{tabled}
 use Rattle.call_desk.specs.Known.{own, few_atoms}
 use Rattle.call_desk.specs.Planned.{built_fit, picked_reportable, reply_over, reply_long, reply_kind, reply_false, reply_built}
 use Rattle.call_desk.proofs.build_case.Goals as goal
+use Rattle.call_desk.proofs.build_case.Goals.{After-report-arg-1, Else-m-ne0}
 
 -- where the case is known to be within its limits, and before
 abbrev start : tie.Else1 → tie.Start

@@ -1,5 +1,6 @@
 -- `call_desk::check` meets its contract: the case is refused, the steps are, or they are run. Assumes nothing.
 use mathlib.Core.Path.{sym}
+use mathlib.Core.List.{[]}
 use native.Mathlib.Omega.{arith}
 use lib.Seq.{length-take-le}
 use Rattle.problem_layout.specs.LaidLaws.{most_zeros}
@@ -13,13 +14,14 @@ use Rattle.call_desk.specs.Known.{own, case_known}
 use Rattle.call_desk.specs.Checked.{checked_refused, text_fault, steps_few}
 use borrow.Author.Rules.{rules}
 use Rattle.call_desk.proofs.check.Goals as goal
+use Rattle.call_desk.proofs.check.Goals.{After-steps-a, After-table-in-Done-1}
 
 -- from where the steps were read to the start
 abbrev start : tie.After-steps2 → tie.Start
 start x = x.before.before.before.before.before.before.before.before.before.before.before.before.before.before.before
 
 pub open_early-f-requires : goal.open_early-f-requires
-open_early-f-requires c = ((few_room _, no_label_words, zeros_clear 512), (search rules, most_zeros table_length 0))
+open_early-f-requires c = record { facts_room = (few_room _, no_label_words, zeros_clear 512); table_len = (search rules, most_zeros table_length 0) }
 
 pub returns-then-f-ne0 : goal.returns-then-f-ne0
 returns-then-f-ne0 c =
@@ -52,6 +54,4 @@ returns-in-Refused c =
     c.refuse-in-Refused.ensures
 
 pub returns-in-Done : goal.returns-in-Done
-returns-in-Done c =
-    let d = c.in-Done.is in let x = c.steps-a.ensures in
-    c.check_case.ensures _ (text_taken _ _ _ _ x.0 d _ (x.1 _ d))
+returns-in-Done c = let d = c.in-Done.is in let x = c.steps-a.ensures in c.check_case.ensures _ (text_taken _ _ _ _ x.0 d _ (x.1 _ d))

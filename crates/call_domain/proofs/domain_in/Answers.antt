@@ -7,7 +7,7 @@ use Rattle.open_pddl.specs.Texts.{writes_case}
 use Rattle.call_domain.proofs.domain_in.Goals as goal
 
 pub open_case-f-requires : goal.open_case-f-requires
-open_case-f-requires c = (c.requires, (search rules, most_zeros table_length 0))
+open_case-f-requires c = record { facts_room = c.requires; table_len = (search rules, most_zeros table_length 0) }
 
 pub returns-then-f-ne0 : goal.returns-then-f-ne0
 returns-then-f-ne0 c = writes_case domain_text _ _ _ _ _ _ c.open_case-f.ensures c.if-f-ne0.true

@@ -13,7 +13,7 @@ pub returns-then-no-ne0 : goal.returns-then-no-ne0
 returns-then-no-ne0 c = λ site table front z. writes_gate domain_text _ site _ _ _ table front z _ c.refusal-no.ensures c.if-no-ne0.true
 
 pub names_of-requires : goal.names_of-requires
-names_of-requires c = ((_, begun_sound _ _ _ c.requires), (search rules, most_zeros 54 0))
+names_of-requires c = record { by_index = (_, begun_sound _ _ _ c.requires); names_len = (search rules, most_zeros 54 0) }
 
 pub relations_of-g-requires : goal.relations_of-g-requires
 relations_of-g-requires c = begun_declared _ _ _ c.requires

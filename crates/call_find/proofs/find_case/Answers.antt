@@ -25,7 +25,7 @@ pub nodes_of-t-requires : goal.nodes_of-t-requires
 nodes_of-t-requires c = rule_fine _ _ _ _ c.requires.holds
 
 pub of_tables-m-requires : goal.of_tables-m-requires
-of_tables-m-requires c = let h = c.requires.holds in (h.some-elements, h.few-elements, c.relations_of-g.ensures.0, c.nodes_of-t.ensures.fits, c.ranges_of-ranges.ensures.0)
+of_tables-m-requires c = let h = c.requires.holds in (h.some_elements, h.few_elements, c.relations_of-g.ensures.0, c.nodes_of-t.ensures.fits, c.ranges_of-ranges.ensures.0)
 
 pub returns-then-k-ne0 : goal.returns-then-k-ne0
 returns-then-k-ne0 c =
@@ -42,19 +42,18 @@ returns-then-m c =
     ends_every usual _ site _ _ _ read z (within_usual x.0 _ T _ c.usual_limits.ensures _ c.refusal-k.ensures c.if-k-ne0.false) _ (every_told x.0 _ T) c.if-m.true
 
 pub lay_out-l-requires : goal.lay_out-l-requires
-lay_out-l-requires c = let h = c.requires.holds in (h.some-elements, h.few-elements, c.relations_of-g.ensures.0, c.nodes_of-t.ensures.fits, c.ranges_of-ranges.ensures.0)
+lay_out-l-requires c = let h = c.requires.holds in (h.some_elements, h.few_elements, c.relations_of-g.ensures.0, c.nodes_of-t.ensures.fits, c.ranges_of-ranges.ensures.0)
 
 pub slice_bounds-fill-end-2 : goal.slice_bounds-fill-end-2
-slice_bounds-fill-end-2 c = sym c.requires.holds.members-are.room
+slice_bounds-fill-end-2 c = sym c.requires.holds.members_are.room
 
 pub fill-requires : goal.fill-requires
 fill-requires c =
-    let s = c.requires in let h = s.holds in let g = c.relations_of-g.ensures in let r = c.ranges_of-ranges.ensures in
-    let i = inputs _ _ s.case _ h _ _ g.1 c.nodes_of-t.ensures in
+    let s = c.requires in let h = s.holds in let g = c.relations_of-g.ensures in let r = c.ranges_of-ranges.ensures in let i = inputs _ _ s.case _ h _ _ g.1 c.nodes_of-t.ensures in
     let T = c.of_tables-m.ensures (problem_of s.case) _ _ r.1 i in
     let (a, b) = counts_usual s.case _ T _ c.usual_limits.ensures _ c.refusal-k.ensures c.if-k-ne0.false in
     let l = (c.lay_out-l.ensures (problem_of s.case) _ _ r.1 i).small number_limit (omega (arith, a)) (omega (arith, b)) in
-    (search rules, most_zeros table_length 0, h.some-elements, h.few-elements, g.0, l, h.sound.types-le, omega (arith, h.sound.types-le, h.members-are.room), r.0, r.1)
+    (search rules, most_zeros table_length 0, h.some_elements, h.few_elements, g.0, l, h.sound.types_le, omega (arith, h.sound.types_le, h.members_are.room), r.0, r.1)
 
 pub returns-then-picks-held : goal.returns-then-picks-held
 returns-then-picks-held c =
@@ -66,19 +65,19 @@ returns-then-picks-held c =
     ends_short usual _ site _ _ _ read z (within_usual x.0 _ T _ c.usual_limits.ensures _ c.refusal-k.ensures c.if-k-ne0.false) _ (every_told x.0 _ T) c.if-m.false _ (c.picks_length-held.ensures.picks (bare p) is ∙ length_same p) c.if-picks-held.true
 
 pub slice_bounds-fill-end-4 : goal.slice_bounds-fill-end-4
-slice_bounds-fill-end-4 c = sym c.requires.holds.members-are.room
+slice_bounds-fill-end-4 c = sym c.requires.holds.members_are.room
 
 pub fill-requires-2 : goal.fill-requires-2
 fill-requires-2 c =
     let h = c.requires.holds in (
       refl,
       most_zeros 1479 0,
-      h.some-elements,
-      h.few-elements,
+      h.some_elements,
+      h.few_elements,
       c.relations_of-g.ensures.0,
       c.nodes_of-t.ensures.fits,
-      h.sound.types-le,
-      omega (arith, h.sound.types-le, h.members-are.room),
+      h.sound.types_le,
+      omega (arith, h.sound.types_le, h.members_are.room),
       c.ranges_of-ranges.ensures.0,
       omega arith,
     )
@@ -89,13 +88,13 @@ search-requires c =
       c.fill.ensures.0,
       record {
         case = s.case;
-        accepted = s.accepted-case;
+        accepted = s.accepted_case;
         value = 0;
         lines = record {
           relations = _;
           nodes = _;
-          some = h.some-elements;
-          size = h.few-elements;
+          some = h.some_elements;
+          size = h.few_elements;
           members = _;
           types = _;
           ranges = _;
@@ -121,6 +120,6 @@ returns c =
     let A = gives_if Accepted (read_case usual _ site) x.0 x.1 (case_fits usual (omega arith) _ site) in
     ends_found usual _ site _ _ _ read z grounded _ told c.if-m.false _ q (omega (arith, c.if-picks-held.false)) _ _ (c.search.ensures x.0 (record {
       sought = record { accepted_case = A; no_every = no_every x.0 _ told c.if-m.false; is = is };
-      lines_of = record { relations = _; nodes = _; some = h.some-elements; size = h.few-elements; members = _; types = _; ranges = _; counted = c.ranges_of-ranges.ensures.1; inputs = i; fits = c.nodes_of-t.ensures.fits; lined = c.fill-2.ensures };
+      lines_of = record { relations = _; nodes = _; some = h.some_elements; size = h.few_elements; members = _; types = _; ranges = _; counted = c.ranges_of-ranges.ensures.1; inputs = i; fits = c.nodes_of-t.ensures.fits; lined = c.fill-2.ensures };
       facts_in = facts_held _ x.0 _ _ h;
     }))

@@ -15,7 +15,7 @@ use borrow.Author.Rules.{rules}
 use Rattle.call_judge.proofs.judge_case.Goals as goal
 
 pub ranges_of-ranges-requires : goal.ranges_of-ranges-requires
-ranges_of-ranges-requires c = let h = c.requires.holds in (h.some-elements, h.few-elements, h.sound.types-le, omega (arith, h.sound.types-le, h.members-are.room))
+ranges_of-ranges-requires c = let h = c.requires.holds in (h.some_elements, h.few_elements, h.sound.types_le, omega (arith, h.sound.types_le, h.members_are.room))
 
 pub relations_of-g-requires : goal.relations_of-g-requires
 relations_of-g-requires c = declared _ _ _ _ c.requires.holds
@@ -24,7 +24,7 @@ pub nodes_of-t-requires : goal.nodes_of-t-requires
 nodes_of-t-requires c = rule_fine _ _ _ _ c.requires.holds
 
 pub of_tables-m-requires : goal.of_tables-m-requires
-of_tables-m-requires c = let h = c.requires.holds in (h.some-elements, h.few-elements, c.relations_of-g.ensures.0, c.nodes_of-t.ensures.fits, c.ranges_of-ranges.ensures.0)
+of_tables-m-requires c = let h = c.requires.holds in (h.some_elements, h.few_elements, c.relations_of-g.ensures.0, c.nodes_of-t.ensures.fits, c.ranges_of-ranges.ensures.0)
 
 pub returns-then-k-ne0 : goal.returns-then-k-ne0
 returns-then-k-ne0 c =
@@ -37,24 +37,22 @@ returns-then-k-ne0 c =
 
 pub values_of-count-requires : goal.values_of-count-requires
 values_of-count-requires c =
-    let s = c.requires in
-    let T = c.of_tables-m.ensures (problem_of s.case) _ _ c.ranges_of-ranges.ensures.1 (inputs _ _ s.case _ s.holds _ _ c.relations_of-g.ensures.1 c.nodes_of-t.ensures) in
+    let s = c.requires in let T = c.of_tables-m.ensures (problem_of s.case) _ _ c.ranges_of-ranges.ensures.1 (inputs _ _ s.case _ s.holds _ _ c.relations_of-g.ensures.1 c.nodes_of-t.ensures) in
     omega (arith, tuples_told s.case _ T, few_usual s.case _ T _ c.usual_limits.ensures _ c.refusal-k.ensures c.if-k-ne0.false)
 
 pub lay_out-l-requires : goal.lay_out-l-requires
-lay_out-l-requires c = let h = c.requires.holds in (h.some-elements, h.few-elements, c.relations_of-g.ensures.0, c.nodes_of-t.ensures.fits, c.ranges_of-ranges.ensures.0)
+lay_out-l-requires c = let h = c.requires.holds in (h.some_elements, h.few_elements, c.relations_of-g.ensures.0, c.nodes_of-t.ensures.fits, c.ranges_of-ranges.ensures.0)
 
 pub slice_bounds-fill-end-2 : goal.slice_bounds-fill-end-2
-slice_bounds-fill-end-2 c = sym c.requires.holds.members-are.room
+slice_bounds-fill-end-2 c = sym c.requires.holds.members_are.room
 
 pub fill-requires : goal.fill-requires
 fill-requires c =
-    let s = c.requires in let h = s.holds in let g = c.relations_of-g.ensures in let r = c.ranges_of-ranges.ensures in
-    let i = inputs _ _ s.case _ h _ _ g.1 c.nodes_of-t.ensures in
+    let s = c.requires in let h = s.holds in let g = c.relations_of-g.ensures in let r = c.ranges_of-ranges.ensures in let i = inputs _ _ s.case _ h _ _ g.1 c.nodes_of-t.ensures in
     let T = c.of_tables-m.ensures (problem_of s.case) _ _ r.1 i in
     let (a, b) = counts_usual s.case _ T _ c.usual_limits.ensures _ c.refusal-k.ensures c.if-k-ne0.false in
     let l = (c.lay_out-l.ensures (problem_of s.case) _ _ r.1 i).small number_limit (omega (arith, a)) (omega (arith, b)) in
-    (search rules, most_zeros table_length 0, h.some-elements, h.few-elements, g.0, l, h.sound.types-le, omega (arith, h.sound.types-le, h.members-are.room), r.0, r.1)
+    (search rules, most_zeros table_length 0, h.some_elements, h.few_elements, g.0, l, h.sound.types_le, omega (arith, h.sound.types_le, h.members_are.room), r.0, r.1)
 
 pub returns-then-picks-held : goal.returns-then-picks-held
 returns-then-picks-held c =
@@ -69,23 +67,23 @@ returns-then-picks-held c =
     }
 
 pub slice_bounds-decide-end-in-Clear : goal.slice_bounds-decide-end-in-Clear
-slice_bounds-decide-end-in-Clear c = sym c.requires.holds.members-are.room
+slice_bounds-decide-end-in-Clear c = sym c.requires.holds.members_are.room
 
 pub decide-requires : goal.decide-requires
 decide-requires c =
     let g = c.relations_of-g.ensures in let r = c.ranges_of-ranges.ensures in let k = c.requires in let h = k.holds in (
       c.fill.ensures.0,
       record {
-        some = h.some-elements;
-        few = h.few-elements;
-        types_le = h.sound.types-le;
-        there = omega (arith, h.sound.types-le, h.members-are.room);
+        some = h.some_elements;
+        few = h.few_elements;
+        types_le = h.sound.types_le;
+        there = omega (arith, h.sound.types_le, h.members_are.room);
         fit = r.0;
         are = r.1;
       },
       g.0,
       c.nodes_of-t.ensures.fits,
-      record { case = k.case; accepted_case = k.accepted-case; inputs = inputs _ _ k.case _ h _ _ g.1 c.nodes_of-t.ensures },
+      record { case = k.case; accepted_case = k.accepted_case; inputs = inputs _ _ k.case _ h _ _ g.1 c.nodes_of-t.ensures },
       c.values_of-count.ensures.1,
     )
 

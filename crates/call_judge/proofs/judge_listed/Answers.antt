@@ -3,7 +3,7 @@ use Rattle.call_judge.specs.Calls.{call_text_refused, call_text}
 use Rattle.call_judge.proofs.judge_listed.Goals as goal
 
 pub picks-a-requires : goal.picks-a-requires
-picks-a-requires c = let p = c.requires in let a = p.0.0 in ((a.holds.sound, a.holds.few-elements, p.1.0, p.1.1), p.0.1)
+picks-a-requires c = let p = c.requires in let a = p.accepted_in.0 in record { sound_signature = (a.holds.sound, a.holds.few_elements, p.picks_room.0, p.picks_room.1); labels_are = p.accepted_in.1 }
 
 pub judge_case-requires : goal.judge_case-requires
 judge_case-requires c = c.requires.accepted_in.0

@@ -25,7 +25,7 @@ pub nodes_of-t-requires : goal.nodes_of-t-requires
 nodes_of-t-requires c = rule_fine _ _ _ _ c.requires.holds
 
 pub of_tables-m-requires : goal.of_tables-m-requires
-of_tables-m-requires c = let h = c.requires.holds in (h.some-elements, h.few-elements, c.relations_of-g.ensures.0, c.nodes_of-t.ensures.fits, c.ranges_of-ranges.ensures.0)
+of_tables-m-requires c = let h = c.requires.holds in (h.some_elements, h.few_elements, c.relations_of-g.ensures.0, c.nodes_of-t.ensures.fits, c.ranges_of-ranges.ensures.0)
 
 pub returns-then-k-ne0 : goal.returns-then-k-ne0
 returns-then-k-ne0 c =
@@ -42,10 +42,10 @@ returns-then-m c =
     ends_else usual _ site _ _ read z (within_usual x.0 _ T _ c.usual_limits.ensures _ c.refusal-k.ensures c.if-k-ne0.false) (else_every _ _ (every_told x.0 _ T) c.if-m.true)
 
 pub overflow_add-first : goal.overflow_add-first
-overflow_add-first c = omega (arith, c.requires.holds.sound.rels-le)
+overflow_add-first c = omega (arith, c.requires.holds.sound.rels_le)
 
 pub some_function-requires : goal.some_function-requires
-some_function-requires c = (c.relations_of-g.ensures.0, omega (arith, c.requires.holds.sound.rels-le, c.requires.holds.sound.chosen-le))
+some_function-requires c = (c.relations_of-g.ensures.0, omega (arith, c.requires.holds.sound.rels_le, c.requires.holds.sound.chosen_le))
 
 pub returns-then-some_function : goal.returns-then-some_function
 returns-then-some_function c =
@@ -66,35 +66,34 @@ returns-then-tree_refuses c =
     (else_tree _ _ (every_told x.0 _ T) _ (by_kinds _ x.0 A _ _ h _ _ _ _ _ i _ c.some_function.ensures) _ (by_tree _ x.0 A _ _ h _ _ _ _ _ i _ c.tree_refuses.ensures) c.if-tree_refuses.true)
 
 pub slice_bounds-fill-end-2 : goal.slice_bounds-fill-end-2
-slice_bounds-fill-end-2 c = sym c.requires.holds.members-are.room
+slice_bounds-fill-end-2 c = sym c.requires.holds.members_are.room
 
 pub fill-requires : goal.fill-requires
 fill-requires c =
     let h = c.requires.holds in (
       refl,
       most_zeros 1479 0,
-      h.some-elements,
-      h.few-elements,
+      h.some_elements,
+      h.few_elements,
       c.relations_of-g.ensures.0,
       c.nodes_of-t.ensures.fits,
-      h.sound.types-le,
-      omega (arith, h.sound.types-le, h.members-are.room),
+      h.sound.types_le,
+      omega (arith, h.sound.types_le, h.members_are.room),
       c.ranges_of-ranges.ensures.0,
       omega arith,
     )
 
 pub rule_is_true-requires : goal.rule_is_true-requires
 rule_is_true-requires c =
-    let s = c.requires in let h = s.holds in let t = c.nodes_of-t.ensures in
-    record {
+    let s = c.requires in let h = s.holds in let t = c.nodes_of-t.ensures in record {
       case = s.case;
-      accepted = s.accepted-case;
+      accepted = s.accepted_case;
       value = 0;
       lines = record {
         relations = _;
         nodes = _;
-        some = h.some-elements;
-        size = h.few-elements;
+        some = h.some_elements;
+        size = h.few_elements;
         members = _;
         types = _;
         ranges = _;
@@ -115,8 +114,8 @@ returns-then-rule_is_true c =
     let r = c.rule_is_true.ensures x.0 0 (cells (problem_of x.0)) A (all_picks x.0 A) (record {
       relations = _;
       nodes = _;
-      some = h.some-elements;
-      size = h.few-elements;
+      some = h.some_elements;
+      size = h.few_elements;
       members = _;
       types = _;
       ranges = _;
@@ -139,8 +138,8 @@ returns c =
     let r = c.rule_is_true.ensures x.0 0 (cells (problem_of x.0)) A (all_picks x.0 A) (record {
       relations = _;
       nodes = _;
-      some = h.some-elements;
-      size = h.few-elements;
+      some = h.some_elements;
+      size = h.few_elements;
       members = _;
       types = _;
       ranges = _;

@@ -21,4 +21,4 @@ pub monotone_case-requires-2 : goal.monotone_case-requires-2
 monotone_case-requires-2 c = accepted_in _ _ _ _ _ (c.read_case-o.ensures usual refl) c.if-o-ne0.false (omega arith)
 
 pub returns : goal.returns
-returns c = c.monotone_case-2.ensures _ (c.read_case-o.ensures usual refl) c.if-o-ne0.false (λ d A h. full_picks (problem_of d) 16384 (text_fits _ d A _ _ h 16384 (picks_enough _ d _ _ h 64 16384 h.few-elements many_picks)))
+returns c = c.monotone_case-2.ensures _ (c.read_case-o.ensures usual refl) c.if-o-ne0.false (λ d A h. full_picks (problem_of d) 16384 (text_fits _ d A _ _ h 16384 (picks_enough _ d _ _ h 64 16384 h.few_elements many_picks)))

@@ -5,7 +5,7 @@ use Rattle.laws.specs.Lists.{any_yes, any_no, any_end, any_start}
 use Rattle.call_monotone.proofs.some_refuses.Goals as goal
 
 pub loop-i-init : goal.loop-i-init
-loop-i-init c = (omega arith, any_start _ _, c.requires.0.parts.parts-length)
+loop-i-init c = (omega arith, any_start _ _, c.requires.0.parts.parts_length)
 
 pub overflow_add-q : goal.overflow_add-q
 overflow_add-q c = omega (arith, c.requires.1)

@@ -12,7 +12,7 @@ pub label-l-requires : goal.label-l-requires
 label-l-requires c = omega (arith, c.requires.1.spans.room)
 
 pub overflow_sub-l : goal.overflow_sub-l
-overflow_sub-l c = omega (arith, c.label-l.ensures.0, c.label-l.ensures.1, (c.requires.1.spans.in-text c.loop-x.x (omega arith)).0)
+overflow_sub-l c = omega (arith, c.label-l.ensures.0, c.label-l.ensures.1, (c.requires.1.spans.in_text c.loop-x.x (omega arith)).0)
 
 pub returns-then-l-gt2 : goal.returns-then-l-gt2
 returns-then-l-gt2 c = λ e. absurd (T_of e)

@@ -14,13 +14,13 @@ pub returns-then-page-gt-PAGES : goal.returns-then-page-gt-PAGES
 returns-then-page-gt-PAGES c = page_beyond _ _ _ _ _ _ _ _ (omega arith)
 
 pub names_of-requires : goal.names_of-requires
-names_of-requires c = ((_, c.requires.printable.sound), (search rules, most_zeros 54 0))
+names_of-requires c = record { by_index = (_, c.requires.printable.sound); names_len = (search rules, most_zeros 54 0) }
 
 pub first_step-found-requires : goal.first_step-found-requires
-first_step-found-requires c = ((c.requires.printable.grounded, (_, names_fit _ _ _ c.requires.printable.sound c.names_of.ensures), c.requires.printable.short), omega arith)
+first_step-found-requires c = record { grounded = (c.requires.printable.grounded, (_, names_fit _ _ _ c.requires.printable.sound c.names_of.ensures), c.requires.printable.short); first_bound = omega arith }
 
 pub page-bytes-requires : goal.page-bytes-requires
-page-bytes-requires c = ((c.requires.printable.grounded, names_fit _ _ _ c.requires.printable.sound c.names_of.ensures, c.requires.printable.short), (omega (arith, c.first_step-found.ensures.2 (omega arith)), omega arith, omega arith))
+page-bytes-requires c = record { grounded = (c.requires.printable.grounded, names_fit _ _ _ c.requires.printable.sound c.names_of.ensures, c.requires.printable.short); skip_bound = (omega (arith, c.first_step-found.ensures.2 (omega arith)), omega arith, omega arith) }
 
 pub returns-then-index-steps : goal.returns-then-index-steps
 returns-then-index-steps c = page_found _ _ _ _ _ _ _ _ _ c.names_of.ensures _ _ _ c.first_step-found.ensures.3 (omega arith) (omega arith) (omega arith) c.first_step-found.ensures.1 _ _ _ refl c.page-bytes.ensures

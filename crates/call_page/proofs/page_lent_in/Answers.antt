@@ -9,7 +9,7 @@ use borrow.Author.Rules.{rules}
 use Rattle.call_page.proofs.page_lent_in.Goals as goal
 
 pub open_usual-f-requires : goal.open_usual-f-requires
-open_usual-f-requires c = ((c.requires.0, no_label_words, c.requires.1), (search rules, most_zeros table_length 0))
+open_usual-f-requires c = record { facts_room = (c.requires.0, no_label_words, c.requires.1); table_len = (search rules, most_zeros table_length 0) }
 
 pub returns-then-f-ne0 : goal.returns-then-f-ne0
 returns-then-f-ne0 c = call_case _ _ _ _ _ _ c.open_usual-f.ensures _ _ _ _ c.if-f-ne0.true

@@ -21,7 +21,7 @@ pub slice_bounds-run_and_lay-end-2 : goal.slice_bounds-run_and_lay-end-2
 slice_bounds-run_and_lay-end-2 c = sym (length-take-le _ _ (omega arith))
 
 pub run_and_lay-requires : goal.run_and_lay-requires
-run_and_lay-requires c = (printable _ _ _ _ _ _ c.requires.0 c.requires.1 c.if-m-ne0.false, (words_enough _ _ _ _ _ _ c.requires.0 c.requires.1 c.if-m-ne0.false _ (sym (length-take-le _ _ (omega arith))), omega arith))
+run_and_lay-requires c = record { printable = printable _ _ _ _ _ _ c.requires.0 c.requires.1 c.if-m-ne0.false; table_in_bounds = (words_enough _ _ _ _ _ _ c.requires.0 c.requires.1 c.if-m-ne0.false _ (sym (length-take-le _ _ (omega arith))), omega arith) }
 
 pub returns : goal.returns
 returns c = λ given t. call_laid _ _ _ _ _ _ c.requires.0 c.requires.1 c.if-m-ne0.false given _ _ _ _ t (omega (arith, c.if-state-words.false)) (omega (arith, c.if-out-lt-PAGE.false)) _ _ _ _ _ (sym (length-take-le _ _ (omega (arith, c.if-state-words.false)))) c.run_and_lay.ensures refl

@@ -3,7 +3,7 @@ use native.Mathlib.Omega.{arith}
 use Rattle.call_page.proofs.page_text_in.Goals as goal
 
 pub page_text_with-requires : goal.page_text_with-requires
-page_text_with-requires c = (c.requires, λ few. omega arith)
+page_text_with-requires c = record { facts_room = c.requires; room_for = λ few. omega arith }
 
 pub page_text_with-requires-2 : goal.page_text_with-requires-2
-page_text_with-requires-2 c = (c.requires, λ few. omega arith)
+page_text_with-requires-2 c = record { facts_room = c.requires; room_for = λ few. omega arith }

@@ -8,7 +8,7 @@ use borrow.Author.Rules.{rules}
 use Rattle.call_plan.proofs.plan_lent_in.Goals as goal
 
 pub open_case-f-requires : goal.open_case-f-requires
-open_case-f-requires c = (c.requires, (search rules, most_zeros table_length 0))
+open_case-f-requires c = record { facts_room = c.requires; table_len = (search rules, most_zeros table_length 0) }
 
 pub returns-then-f-ne0 : goal.returns-then-f-ne0
 returns-then-f-ne0 c = planned_case _ _ _ _ _ c.open_case-f.ensures _ _ c.if-f-ne0.true

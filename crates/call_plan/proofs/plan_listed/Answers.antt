@@ -1,6 +1,7 @@
 -- `call_plan::plan_listed` meets its contract. Assumes nothing.
 use native.Mathlib.Omega.{arith}
 use mathlib.Core.Path.{sym}
+use mathlib.Core.List.{[]}
 use lib.Seq.{length-take-le}
 use Rattle.open_case.specs.Replies.{text_refused, text_taken, text_room}
 use Rattle.call_plan.specs.Written.{planned_steps}

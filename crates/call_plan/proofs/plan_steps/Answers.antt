@@ -13,7 +13,7 @@ pub returns-then-bad-steps : goal.returns-then-bad-steps
 returns-then-bad-steps c = λ site facts given front z t. planned_missing _ site _ facts _ front z given _ _ t (sym c.if-no-ne0.false ∙ c.refusal-no.ensures) _ c.missing-bad.ensures (omega arith)
 
 pub names_of-requires : goal.names_of-requires
-names_of-requires c = ((_, begun_sound _ _ _ c.requires), (search rules, most_zeros 54 0))
+names_of-requires c = record { by_index = (_, begun_sound _ _ _ c.requires); names_len = (search rules, most_zeros 54 0) }
 
 pub plan-bytes-requires : goal.plan-bytes-requires
 plan-bytes-requires c = (begun_grounded _ _ _ c.requires (sym c.if-no-ne0.false ∙ c.refusal-no.ensures), begun_names _ _ _ c.requires _ c.names_of.ensures)

@@ -17,16 +17,16 @@ pub returns-then-steps-form : goal.returns-then-steps-form
 returns-then-steps-form c = λ site facts front z. read_short _ site _ facts _ front _ _ z _ _ _ c.form-form.ensures c.if-form-ne0.false (sym c.if-no-ne0.false ∙ c.refusal-no.ensures) (omega arith)
 
 pub names_of-requires : goal.names_of-requires
-names_of-requires c = ((_, begun_sound _ _ _ c.requires), (search rules, most_zeros 54 0))
+names_of-requires c = record { by_index = (_, begun_sound _ _ _ c.requires); names_len = (search rules, most_zeros 54 0) }
 
 pub steps-tried-requires : goal.steps-tried-requires
-steps-tried-requires c = (begun_posed _ _ _ c.requires (sym c.if-no-ne0.false ∙ c.refusal-no.ensures) _ _ _ _ c.form-form.ensures c.if-form-ne0.false _ c.names_of.ensures, formed_lines _ _ _ _ c.form-form.ensures c.if-form-ne0.false)
+steps-tried-requires c = record { posed = begun_posed _ _ _ c.requires (sym c.if-no-ne0.false ∙ c.refusal-no.ensures) _ _ _ _ c.form-form.ensures c.if-form-ne0.false _ c.names_of.ensures; s_value = formed_lines _ _ _ _ c.form-form.ensures c.if-form-ne0.false }
 
 pub returns-then-tried-ne0 : goal.returns-then-tried-ne0
 returns-then-tried-ne0 c = λ site facts front z. read_stopped _ site _ facts _ front _ _ z _ _ _ c.form-form.ensures c.if-form-ne0.false (sym c.if-no-ne0.false ∙ c.refusal-no.ensures) _ c.names_of.ensures (omega arith) _ _ _ _ _ c.steps-tried.ensures c.if-tried-ne0.true
 
 pub steps-requires : goal.steps-requires
-steps-requires c = (begun_posed _ _ _ c.requires (sym c.if-no-ne0.false ∙ c.refusal-no.ensures) _ _ _ _ c.form-form.ensures c.if-form-ne0.false _ c.names_of.ensures, formed_lines _ _ _ _ c.form-form.ensures c.if-form-ne0.false)
+steps-requires c = record { posed = begun_posed _ _ _ c.requires (sym c.if-no-ne0.false ∙ c.refusal-no.ensures) _ _ _ _ c.form-form.ensures c.if-form-ne0.false _ c.names_of.ensures; s_value = formed_lines _ _ _ _ c.form-form.ensures c.if-form-ne0.false }
 
 pub returns : goal.returns
 returns c = λ site facts front z. read_written _ site _ facts _ front _ _ z _ _ _ c.form-form.ensures c.if-form-ne0.false (sym c.if-no-ne0.false ∙ c.refusal-no.ensures) _ c.names_of.ensures (omega arith) _ _ _ _ _ c.steps-tried.ensures c.if-tried-ne0.false _ _ _ _ c.steps.ensures

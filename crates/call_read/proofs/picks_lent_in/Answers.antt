@@ -10,7 +10,7 @@ use borrow.Author.Rules.{rules}
 use Rattle.call_read.proofs.picks_lent_in.Goals as goal
 
 pub open_case-f-requires : goal.open_case-f-requires
-open_case-f-requires c = (c.requires, (search rules, most_zeros table_length 0))
+open_case-f-requires c = record { facts_room = c.requires; table_len = (search rules, most_zeros table_length 0) }
 
 pub returns-then-f-ne0 : goal.returns-then-f-ne0
 returns-then-f-ne0 c = call_case _ _ _ _ _ _ usual _ _ c.open_case-f.ensures c.if-f-ne0.true

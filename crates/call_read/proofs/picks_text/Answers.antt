@@ -4,4 +4,4 @@ use Rattle.read_sheets.proofs.Loops.{zeros_clear}
 use Rattle.call_read.proofs.picks_text.Goals as goal
 
 pub picks_text_with-requires : goal.picks_text_with-requires
-picks_text_with-requires c = ((c.is_small.ensures c.if-is_small.true, zeros_clear 512), λ few. omega arith)
+picks_text_with-requires c = record { facts_room = (c.is_small.ensures c.if-is_small.true, zeros_clear 512); room_for = λ few. omega arith }

@@ -3,7 +3,7 @@ use native.Mathlib.Omega.{arith}
 use Rattle.call_read.proofs.picks_text_in.Goals as goal
 
 pub picks_text_with-requires : goal.picks_text_with-requires
-picks_text_with-requires c = (c.requires, λ few. omega arith)
+picks_text_with-requires c = record { facts_room = c.requires; room_for = λ few. omega arith }
 
 pub picks_text_with-requires-2 : goal.picks_text_with-requires-2
-picks_text_with-requires-2 c = (c.requires, λ few. omega arith)
+picks_text_with-requires-2 c = record { facts_room = c.requires; room_for = λ few. omega arith }

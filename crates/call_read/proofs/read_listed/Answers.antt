@@ -1,6 +1,7 @@
 -- `call_read::read_listed` meets its contract: the text is refused, or its steps, which the list has room for, are run. Assumes nothing.
 use native.Mathlib.Omega.{arith}
 use mathlib.Core.Path.{sym}
+use mathlib.Core.List.{[]}
 use lib.Seq.{length-take-le}
 use Rattle.open_case.specs.Replies.{text_refused, text_taken, text_room}
 use Rattle.call_read.specs.Reads.{call_steps}

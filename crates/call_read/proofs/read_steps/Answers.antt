@@ -10,15 +10,13 @@ pub returns-then-m-ne0 : goal.returns-then-m-ne0
 returns-then-m-ne0 c = λ given t L q site front z. call_over given _ _ _ _ _ L q site front z _ t c.if-m-ne0.true
 
 pub picks_length-needed-requires : goal.picks_length-needed-requires
-picks_length-needed-requires c =
-    let r = c.requires.1 in
-    (tabled r.limits-are r.case _ _ r.held.grounded c.if-m-ne0.false).fits
+picks_length-needed-requires c = let r = c.requires.1 in (tabled r.limits_are r.case _ _ r.held.grounded c.if-m-ne0.false).fits
 
 pub returns-then-picks-needed : goal.returns-then-picks-needed
 returns-then-picks-needed c = λ given t L q site front z. call_few_picks given _ _ _ _ _ L q site front z _ t c.if-m-ne0.false _ c.picks_length-needed.ensures.picks (omega arith)
 
 pub overflow_add-words : goal.overflow_add-words
-overflow_add-words c = let r = c.requires.1 in omega (arith, atoms_few r.limits-are r.case _ _ r.held.grounded c.if-m-ne0.false, r.atoms-few)
+overflow_add-words c = let r = c.requires.1 in omega (arith, atoms_few r.limits_are r.case _ _ r.held.grounded c.if-m-ne0.false, r.atoms_few)
 
 pub returns-then-state-words : goal.returns-then-state-words
 returns-then-state-words c = λ given t L q site front z. call_few_words given _ _ _ _ _ L q site front z _ t c.if-m-ne0.false _ c.picks_length-needed.ensures.picks (omega arith) (omega arith)
@@ -27,9 +25,7 @@ pub slice_bounds-run_and_copy-end-2 : goal.slice_bounds-run_and_copy-end-2
 slice_bounds-run_and_copy-end-2 c = sym (length-take-le _ _ (omega arith))
 
 pub run_and_copy-requires : goal.run_and_copy-requires
-run_and_copy-requires c =
-    let r = c.requires.1 in let g = r.held.grounded in
-    (table_is r.limits-are r.case _ _ g c.if-m-ne0.false, (words_fit r.limits-are r.case _ _ g c.if-m-ne0.false _ (sym (length-take-le _ _ (omega arith))), omega (arith, c.picks_length-needed.ensures.lines)))
+run_and_copy-requires c = let r = c.requires.1 in let g = r.held.grounded in record { grounded = table_is r.limits_are r.case _ _ g c.if-m-ne0.false; table_in_bounds = words_fit r.limits_are r.case _ _ g c.if-m-ne0.false _ (sym (length-take-le _ _ (omega arith))); table_in_bounds_2 = omega (arith, c.picks_length-needed.ensures.lines) }
 
 pub returns : goal.returns
 returns c = λ given t L q site front z. call_ran given _ _ _ _ _ L q site front z _ t c.if-m-ne0.false _ c.picks_length-needed.ensures.picks (omega arith) (omega arith) _ _ _ _ _ (sym (length-take-le _ _ (omega arith))) c.run_and_copy.ensures refl

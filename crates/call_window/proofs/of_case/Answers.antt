@@ -13,17 +13,16 @@ use Rattle.read_sheets.specs.Opening.{Holds, case_read}
 use Rattle.open_case.specs.Usual.{over_usual, within_usual}
 use Rattle.call_window.specs.Windows.{window_over, window_every, window_told}
 use Rattle.call_window.proofs.of_case.Goals as goal
+use Rattle.call_window.proofs.of_case.Goals.{After-of_tables-m}
 
 -- what was counted is the problem's
-tallied : (c : goal.After-of_tables-m) → (x : Case) (facts : ℕ → Bool) → Holds c.args.question.now x c.args.o facts → Tallied (problem_of x) c.of_tables-m.result
+tallied : (c : After-of_tables-m) → (x : Case) (facts : ℕ → Bool) → Holds c.args.question.now x c.args.o facts → Tallied (problem_of x) c.of_tables-m.result
 tallied c x facts h =
     let is = inputs _ _ x facts h _ _ c.relations_of-g.ensures.1 c.nodes_of-t.ensures in
     c.of_tables-m.ensures (problem_of x) _ _ c.ranges_of-ranges.ensures.1 is
 
 pub ranges_of-ranges-requires : goal.ranges_of-ranges-requires
-ranges_of-ranges-requires c =
-    let h = c.requires.holds in
-    (h.some-elements, h.few-elements, h.sound.types-le, omega (arith, h.sound.types-le, h.members-are.room))
+ranges_of-ranges-requires c = let h = c.requires.holds in (h.some_elements, h.few_elements, h.sound.types_le, omega (arith, h.sound.types_le, h.members_are.room))
 
 pub relations_of-g-requires : goal.relations_of-g-requires
 relations_of-g-requires c = declared _ _ _ _ c.requires.holds
@@ -32,9 +31,7 @@ pub nodes_of-t-requires : goal.nodes_of-t-requires
 nodes_of-t-requires c = rule_fine _ _ _ _ c.requires.holds
 
 pub of_tables-m-requires : goal.of_tables-m-requires
-of_tables-m-requires c =
-    let h = c.requires.holds in
-    (h.some-elements, h.few-elements, c.relations_of-g.ensures.0, c.nodes_of-t.ensures.fits, c.ranges_of-ranges.ensures.0)
+of_tables-m-requires c = let h = c.requires.holds in (h.some_elements, h.few_elements, c.relations_of-g.ensures.0, c.nodes_of-t.ensures.fits, c.ranges_of-ranges.ensures.0)
 
 pub returns-then-k-ne0 : goal.returns-then-k-ne0
 returns-then-k-ne0 c =

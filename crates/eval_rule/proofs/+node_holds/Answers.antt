@@ -20,22 +20,13 @@ use Rattle.eval_rule.proofs.+node_holds.Goals.{After-node_at-x, Joined-is_known}
 line-says : (t : ℕ) (c : After-node_at-x t)
     → let x = c.node_at-x.result in (x.level < 4) × (x.first + x.many ≤ 64) × (x.range + x.count ≤ lines_length)
 line-says t c =
-    let p = c.requires in let e = c.node_at-x.ensures in
-    (level_small _ _ p.0 _ p.1 _ e, parts_small _ _ p.0 _ p.1 _ e, range_inside _ _ p.0 _ p.1 _ e)
+    let p = c.requires in let e = c.node_at-x.ensures in (level_small _ _ p.0 _ p.1 _ e, parts_small _ _ p.0 _ p.1 _ e, range_inside _ _ p.0 _ p.1 _ e)
 
 -- what a part gives: what is known of it, a node by its own call, a literal by its line
 cell : (t : ℕ) (c : Joined-is_known t) →
-    let a = c.args in
-    let x = c.node_at-x in
-    let e = c.elements in let u = c.value_at in
-    let o = c.parts in
-    IsCell a.n a.lines.now (leaf_at a.facts.now a.picks.now a.n) a.v (value_in (set e.values x.result.level u.result)) o.i c.if-is_known.b
+    let a = c.args in let x = c.node_at-x in let e = c.elements in let u = c.value_at in let o = c.parts in IsCell a.n a.lines.now (leaf_at a.facts.now a.picks.now a.n) a.v (value_in (set e.values x.result.level u.result)) o.i c.if-is_known.b
 cell t c =
-    let parts-test = c.parts-test in let e = c.elements in
-    let x = c.node_at-x in
-    let a = c.args in let u = c.value_at in
-    let o = c.parts in let f = c.is_fixed-fixed in let q = c.part_at-q in
-    let k = c.is_known in ⊎_elim
+    let parts-test = c.parts-test in let e = c.elements in let x = c.node_at-x in let a = c.args in let u = c.value_at in let o = c.parts in let f = c.is_fixed-fixed in let q = c.part_at-q in let k = c.is_known in ⊎_elim
     (λ w. let z = known_is f.result o.i o.seen k.result k.ensures w.0.taken in
     cell_known a.n a.lines.now (leaf_at a.facts.now a.picks.now a.n) a.v x.result.level x.result.first x.result.many (eqb x.result.join 1)
     (value_in (set e.values x.result.level u.result)) o.seen o.invariant.4 o.i z.1 (sym f.ensures ∙ z.0) c.if-is_known.b w.1)
@@ -55,25 +46,24 @@ pub node_at-x-requires : goal.node_at-x-requires
 node_at-x-requires t c = (c.requires.0.whole, c.requires.1)
 
 pub offset_bounds-env-level : goal.offset_bounds-env-level
-offset_bounds-env-level t c = omega (arith, (line-says t (goal.at.offset_bounds-env-level c).After-node_at-x).0)
+offset_bounds-env-level t c = omega (arith, (line-says t (goal.at.offset_bounds-env-level t c).After-node_at-x).0)
 
 pub bounds-env-level : goal.bounds-env-level
-bounds-env-level t c = omega (arith, (line-says t (goal.at.bounds-env-level c).After-node_at-x).0)
+bounds-env-level t c = omega (arith, (line-says t (goal.at.bounds-env-level t c).After-node_at-x).0)
 
 pub elements-init : goal.elements-init
 elements-init t c =
-    let a = c.args in let x = c.node_at-x in
-    let len : length a.t6 ≡ 4 = search rules in (
+    let a = c.args in let x = c.node_at-x in let len : length a.env ≡ 4 = search rules in (
       omega arith,
       refl,
-      steady_start a.t6 x.result.level (omega (arith, len, level_small _ _ c.requires.0 _ c.requires.1 _ x.ensures)),
+      steady_start a.env x.result.level (omega (arith, len, level_small _ _ c.requires.0 _ c.requires.1 _ x.ensures)),
       c.requires.2,
       none_gone (AllTurns a.n a.lines.now (leaf_at a.facts.now a.picks.now a.n) a.v
           x.result.kind x.result.level x.result.many (eqb x.result.join 1) (eqb x.result.kind 1)
-          (value_in a.t6) (element_in a.lines.now x.result.range) x.result.count) x.result.count
-          (turns_start a.n a.lines.now (leaf_at a.facts.now a.picks.now a.n) a.v x.result (value_in a.t6) x.ensures),
+          (value_in a.env) (element_in a.lines.now x.result.range) x.result.count) x.result.count
+          (turns_start a.n a.lines.now (leaf_at a.facts.now a.picks.now a.n) a.v x.result (value_in a.env) x.ensures),
       passed_none a.n a.lines.now (leaf_at a.facts.now a.picks.now a.n) a.v x.result.level x.result.first x.result.many (eqb x.result.join 1)
-          (value_in a.t6),
+          (value_in a.env),
     )
 
 pub overflow_sub-turn : goal.overflow_sub-turn
@@ -83,53 +73,45 @@ pub overflow_sub-left : goal.overflow_sub-left
 overflow_sub-left t c = omega arith
 
 pub overflow_add-range : goal.overflow_add-range
-overflow_add-range t c = omega (arith, (line-says t (goal.at.overflow_add-range c).After-node_at-x).2)
+overflow_add-range t c = omega (arith, (line-says t (goal.at.overflow_add-range t c).After-node_at-x).2)
 
 pub value_at-requires : goal.value_at-requires
-value_at-requires t c = omega (arith, c.requires.0.whole, (line-says t (goal.at.value_at-requires c).After-node_at-x).2, c.elements-test.true, c.elements.invariant.0)
+value_at-requires t c = omega (arith, c.requires.0.whole, (line-says t (goal.at.value_at-requires t c).After-node_at-x).2, c.elements-test.true, c.elements.invariant.0)
 
 pub offset_bounds-values-level : goal.offset_bounds-values-level
-offset_bounds-values-level t c = omega (arith, (line-says t (goal.at.offset_bounds-values-level c).After-node_at-x).0)
+offset_bounds-values-level t c = omega (arith, (line-says t (goal.at.offset_bounds-values-level t c).After-node_at-x).0)
 
 pub bounds-values-level : goal.bounds-values-level
-bounds-values-level t c = omega (arith, (line-says t (goal.at.bounds-values-level c).After-node_at-x).0)
+bounds-values-level t c = omega (arith, (line-says t (goal.at.bounds-values-level t c).After-node_at-x).0)
 
 pub parts-init : goal.parts-init
 parts-init t c =
-    let a = c.args in
-    let x = c.node_at-x in let e = c.elements in let u = c.value_at in (
+    let a = c.args in let x = c.node_at-x in let e = c.elements in let u = c.value_at in (
       omega arith,
       omega arith,
       e.invariant.1,
       parts_start a.n a.lines.now (leaf_at a.facts.now a.picks.now a.n) a.v
           x.result.kind x.result.level x.result.many (eqb x.result.join 1) (eqb x.result.kind 1)
           (value_in (set e.values x.result.level u.result)),
-      passed_over _ _ _ _ x.result.level x.result.first x.result.many (eqb x.result.join 1) (value_in a.t6) (value_in (set e.values x.result.level u.result)) _
-          e.seen (values_are a.t6 _ _ _ _ e.values e.invariant.2 u.ensures) e.invariant.5,
+      passed_over _ _ _ _ x.result.level x.result.first x.result.many (eqb x.result.join 1) (value_in a.env) (value_in (set e.values x.result.level u.result)) _
+          e.seen (values_are a.env _ _ _ _ e.values e.invariant.2 u.ensures) e.invariant.5,
     )
 
 pub overflow_add-first : goal.overflow_add-first
-overflow_add-first t c = omega (arith, (line-says t (goal.at.overflow_add-first c).After-node_at-x).1)
+overflow_add-first t c = omega (arith, (line-says t (goal.at.overflow_add-first t c).After-node_at-x).1)
 
 pub is_fixed-fixed-requires : goal.is_fixed-fixed-requires
-is_fixed-fixed-requires t c = (c.requires.0.whole, omega (arith, (line-says t (goal.at.is_fixed-fixed-requires c).After-node_at-x).1, c.parts-test.true), (line-says t (goal.at.is_fixed-fixed-requires c).After-node_at-x).0)
+is_fixed-fixed-requires t c = (c.requires.0.whole, omega (arith, (line-says t (goal.at.is_fixed-fixed-requires t c).After-node_at-x).1, c.parts-test.true), (line-says t (goal.at.is_fixed-fixed-requires t c).After-node_at-x).0)
 
 pub overflow_add-first-in-parts : goal.overflow_add-first-in-parts
-overflow_add-first-in-parts t c = omega (arith, (line-says t (goal.at.overflow_add-first-in-parts c).After-node_at-x).1)
+overflow_add-first-in-parts t c = omega (arith, (line-says t (goal.at.overflow_add-first-in-parts t c).After-node_at-x).1)
 
 pub part_at-q-requires : goal.part_at-q-requires
-part_at-q-requires t c =
-    let x = c.node_at-x in
-    (c.requires.0.whole, omega (arith, parts_small _ _ c.requires.0 _ c.requires.1 _ x.ensures, c.parts-test.true))
+part_at-q-requires t c = let x = c.node_at-x in (c.requires.0.whole, omega (arith, parts_small _ _ c.requires.0 _ c.requires.1 _ x.ensures, c.parts-test.true))
 
 pub node_holds-requires : goal.node_holds-requires
 node_holds-requires t c =
-    let u = c.value_at in
-    let elements-test = c.elements-test in
-    let e = c.elements in
-    let x = c.node_at-x in
-    let a = c.args in let o = c.parts in let q = c.part_at-q in
-    let higher = rises _ _ c.requires.0 _ c.requires.1 _ x.ensures o.i q.result (omega
+    let u = c.value_at in let elements-test = c.elements-test in let e = c.elements in let x = c.node_at-x in let a = c.args in let o = c.parts in let q = c.part_at-q in let higher = rises _ _ c.requires.0 _ c.requires.1 _ x.ensures o.i q.result (omega
     (arith, c.parts-test.true)) q.ensures c.if-q-eq0.true in (
       omega (arith, c.decreases, higher.0),
       (
@@ -142,15 +124,11 @@ node_holds-requires t c =
     )
 
 pub overflow_add-first-else-q-eq0 : goal.overflow_add-first-else-q-eq0
-overflow_add-first-else-q-eq0 t c = omega (arith, (line-says t (goal.at.overflow_add-first-else-q-eq0 c).After-node_at-x).1, c.parts-test.true)
+overflow_add-first-else-q-eq0 t c = omega (arith, (line-says t (goal.at.overflow_add-first-else-q-eq0 t c).After-node_at-x).1, c.parts-test.true)
 
 pub leaf_holds-requires : goal.leaf_holds-requires
 leaf_holds-requires t c =
-    let u = c.value_at in
-    let elements-test = c.elements-test in
-    let e = c.elements in
-    let x = c.node_at-x in
-    let a = c.args in (
+    let u = c.value_at in let elements-test = c.elements-test in let e = c.elements in let x = c.node_at-x in let a = c.args in (
       c.requires.0,
       omega (arith, parts_small _ _ c.requires.0 _ c.requires.1 _ x.ensures, c.parts-test.true),
       within_set a.n e.values x.result.level u.result
@@ -163,56 +141,44 @@ elements-smaller-then-agrees t c = omega (arith, c.elements-test.true)
 
 pub elements-preserved-then-agrees : goal.elements-preserved-then-agrees
 elements-preserved-then-agrees t c =
-    let parts-test = c.parts-test in
-    let o = c.parts in let u = c.value_at in
-    let elements-test = c.elements-test in
-    let e = c.elements in
-    let d = c.agrees-decisive in
-    let x = c.node_at-x in
-    let a = c.args in
-    let r = c.agrees in (
+    let parts-test = c.parts-test in let o = c.parts in let u = c.value_at in let elements-test = c.elements-test in let e = c.elements in let d = c.agrees-decisive in let x = c.node_at-x in let a = c.args in let r = c.agrees in (
       omega (arith, elements-test.true, e.invariant.0),
       o.invariant.2,
-      steady_next a.t6 x.result.level e.values u.result e.invariant.2,
+      steady_next a.env x.result.level e.values u.result e.invariant.2,
       within_set a.n e.values x.result.level u.result
           (value_small _ _ _ _ _ u.ensures
           (element_small _ _ c.requires.0 _ c.requires.1 _ x.ensures (x.result.count - e.left) (omega (arith, elements-test.true, e.invariant.0))) (c.requires.2 x.result.level)) e.invariant.3,
       one_gone (AllTurns a.n a.lines.now (leaf_at a.facts.now a.picks.now a.n) a.v
           x.result.kind x.result.level x.result.many (eqb x.result.join 1) (eqb x.result.kind 1)
-          (value_in a.t6) (element_in a.lines.now x.result.range) x.result.count) x.result.count e.left (omega (arith, elements-test.true)) e.invariant.0
+          (value_in a.env) (element_in a.lines.now x.result.range) x.result.count) x.result.count e.left (omega (arith, elements-test.true)) e.invariant.0
           (part_goes _ _ _ _ _ _ _ _ _ _ _ _ _ e.invariant.4 (omega (arith, elements-test.true, e.invariant.0))
-          (value_in (set e.values x.result.level u.result)) (values_are a.t6 _ _ _ _ e.values e.invariant.2 u.ensures)
+          (value_in (set e.values x.result.level u.result)) (values_are a.env _ _ _ _ e.values e.invariant.2 u.ensures)
           o.i o.invariant.3 d.result d.ensures
-          c.if-is_known.b r.result (omega (arith, parts-test.true)) (cell t ((goal.at.elements-preserved-then-agrees c).Joined-is_known)) r.ensures c.if-agrees.true c.if-decisive.false),
-      passed_back _ _ _ _ x.result.level x.result.first x.result.many (eqb x.result.join 1) (value_in a.t6) (value_in (set e.values x.result.level u.result)) _
-          o.seen (values_are a.t6 _ _ _ _ e.values e.invariant.2 u.ensures) o.invariant.4,
+          c.if-is_known.b r.result (omega (arith, parts-test.true)) (cell t ((goal.at.elements-preserved-then-agrees t c).Joined-is_known)) r.ensures c.if-agrees.true c.if-decisive.false),
+      passed_back _ _ _ _ x.result.level x.result.first x.result.many (eqb x.result.join 1) (value_in a.env) (value_in (set e.values x.result.level u.result)) _
+          o.seen (values_are a.env _ _ _ _ e.values e.invariant.2 u.ensures) o.invariant.4,
     )
 
 pub overflow_add-i : goal.overflow_add-i
-overflow_add-i t c = omega (arith, (line-says t (goal.at.overflow_add-i c).After-node_at-x).1, c.parts-test.true)
+overflow_add-i t c = omega (arith, (line-says t (goal.at.overflow_add-i t c).After-node_at-x).1, c.parts-test.true)
 
 pub parts-smaller : goal.parts-smaller
 parts-smaller t c = omega (arith, c.parts-test.true)
 
 pub parts-preserved : goal.parts-preserved
 parts-preserved t c =
-    let parts-test = c.parts-test in
-    let o = c.parts in let u = c.value_at in
-    let e = c.elements in
-    let x = c.node_at-x in
-    let a = c.args in
-    let r = c.agrees in let l = c.later-seen in (
+    let parts-test = c.parts-test in let o = c.parts in let u = c.value_at in let e = c.elements in let x = c.node_at-x in let a = c.args in let r = c.agrees in let l = c.later-seen in (
       omega (arith, parts-test.true),
       (later_over o.seen (o.i + 1) l.result l.ensures).1,
       o.invariant.2,
       parts_next a.n a.lines.now (leaf_at a.facts.now a.picks.now a.n) a.v
           x.result.kind x.result.level x.result.many (eqb x.result.join 1) (eqb x.result.kind 1)
           (value_in (set e.values x.result.level u.result)) o.i o.invariant.3
-          c.if-is_known.b r.result (omega (arith, parts-test.true)) (cell t ((goal.at.parts-preserved c).Joined-is_known)) r.ensures c.if-agrees.false,
+          c.if-is_known.b r.result (omega (arith, parts-test.true)) (cell t ((goal.at.parts-preserved t c).Joined-is_known)) r.ensures c.if-agrees.false,
       passed_next a.n a.lines.now (leaf_at a.facts.now a.picks.now a.n) a.v x.result.level x.result.first x.result.many
           (eqb x.result.join 1) (value_in (set e.values x.result.level u.result)) o.seen o.invariant.4 o.i
           (still_is a.n a.lines.now (leaf_at a.facts.now a.picks.now a.n) a.v x.result x.ensures)
-          c.if-is_known.b r.result o.invariant.1 (omega (arith, parts-test.true)) (cell t ((goal.at.parts-preserved c).Joined-is_known)) r.ensures c.if-agrees.false l.result l.ensures,
+          c.if-is_known.b r.result o.invariant.1 (omega (arith, parts-test.true)) (cell t ((goal.at.parts-preserved t c).Joined-is_known)) r.ensures c.if-agrees.false l.result l.ensures,
     )
 
 pub elements-smaller : goal.elements-smaller
@@ -220,66 +186,46 @@ elements-smaller t c = omega (arith, c.elements-test.true)
 
 pub elements-preserved : goal.elements-preserved
 elements-preserved t c =
-    let elements-test = c.elements-test in let x = c.node_at-x in
-    let a = c.args in
-    let d = c.agrees-decisive in let e = c.elements in
-    let u = c.value_at in let o = c.parts in (
+    let elements-test = c.elements-test in let x = c.node_at-x in let a = c.args in let d = c.agrees-decisive in let e = c.elements in let u = c.value_at in let o = c.parts in (
       omega (arith, elements-test.true, e.invariant.0),
       o.invariant.2,
-      steady_next a.t6 x.result.level e.values u.result e.invariant.2,
+      steady_next a.env x.result.level e.values u.result e.invariant.2,
       within_set a.n e.values x.result.level u.result
           (value_small _ _ _ _ _ u.ensures
           (element_small _ _ c.requires.0 _ c.requires.1 _ x.ensures (x.result.count - e.left) (omega (arith, elements-test.true, e.invariant.0))) (c.requires.2 x.result.level)) e.invariant.3,
       one_gone (AllTurns a.n a.lines.now (leaf_at a.facts.now a.picks.now a.n) a.v
           x.result.kind x.result.level x.result.many (eqb x.result.join 1) (eqb x.result.kind 1)
-          (value_in a.t6) (element_in a.lines.now x.result.range) x.result.count) x.result.count e.left (omega (arith, elements-test.true)) e.invariant.0
+          (value_in a.env) (element_in a.lines.now x.result.range) x.result.count) x.result.count e.left (omega (arith, elements-test.true)) e.invariant.0
           (none_goes _ _ _ _ _ _ _ _ _ _ _ _ _ e.invariant.4 (omega (arith, elements-test.true, e.invariant.0))
-          (value_in (set e.values x.result.level u.result)) (values_are a.t6 _ _ _ _ e.values e.invariant.2 u.ensures)
+          (value_in (set e.values x.result.level u.result)) (values_are a.env _ _ _ _ e.values e.invariant.2 u.ensures)
           o.i o.invariant.3 d.result d.ensures
           (omega arith) c.if-decisive-2.true),
-      passed_back _ _ _ _ x.result.level x.result.first x.result.many (eqb x.result.join 1) (value_in a.t6) (value_in (set e.values x.result.level u.result)) _
-          o.seen (values_are a.t6 _ _ _ _ e.values e.invariant.2 u.ensures) o.invariant.4,
+      passed_back _ _ _ _ x.result.level x.result.first x.result.many (eqb x.result.join 1) (value_in a.env) (value_in (set e.values x.result.level u.result)) _
+          o.seen (values_are a.env _ _ _ _ e.values e.invariant.2 u.ensures) o.invariant.4,
     )
 
 pub returns-after-elements : goal.returns-after-elements
-returns-after-elements t c =
-    let x = c.node_at-x in let e = c.elements in
-    ends _ _ _ _ _ _ _ _ _ _ _ _ _ e.invariant.4 e.answer (omega arith) e.invariant.1
+returns-after-elements t c = let x = c.node_at-x in let e = c.elements in ends _ _ _ _ _ _ _ _ _ _ _ _ _ e.invariant.4 e.answer (omega arith) e.invariant.1
 
 pub returns-then-decisive : goal.returns-then-decisive
 returns-then-decisive t c =
-    let o = c.parts in
-    let u = c.value_at in
-    let elements-test = c.elements-test in
-    let e = c.elements in
-    let d = c.agrees-decisive in
-    let x = c.node_at-x in
-    let a = c.args in let r = c.agrees in part_ends _ _ _ _ _ _ _ _ _ _ _ _ _ e.invariant.4 (omega (arith, elements-test.true, e.invariant.0))
-    (value_in (set e.values x.result.level u.result)) (values_are a.t6 _ _ _ _ e.values e.invariant.2 u.ensures)
+    let o = c.parts in let u = c.value_at in let elements-test = c.elements-test in let e = c.elements in let d = c.agrees-decisive in let x = c.node_at-x in let a = c.args in let r = c.agrees in part_ends _ _ _ _ _ _ _ _ _ _ _ _ _ e.invariant.4 (omega (arith, elements-test.true, e.invariant.0))
+    (value_in (set e.values x.result.level u.result)) (values_are a.env _ _ _ _ e.values e.invariant.2 u.ensures)
     o.i o.invariant.3 d.result d.ensures
-    c.if-is_known.b r.result (omega (arith, c.parts-test.true)) (cell t ((goal.at.returns-then-decisive c).Joined-is_known)) r.ensures c.if-agrees.true c.if-decisive.true
+    c.if-is_known.b r.result (omega (arith, c.parts-test.true)) (cell t ((goal.at.returns-then-decisive t c).Joined-is_known)) r.ensures c.if-agrees.true c.if-decisive.true
 
 pub returns-then-fixed : goal.returns-then-fixed
 returns-then-fixed t c =
-    let parts-test = c.parts-test in
-    let o = c.parts in let u = c.value_at in
-    let e = c.elements in
-    let d = c.agrees-decisive in
-    let x = c.node_at-x in
-    let a = c.args in let f = c.is_fixed-fixed in let r = c.agrees in
-    fixed_ends _ _ _ _ _ _ _ _ _ _ _ _ _ e.invariant.4 x.result.first (still_is a.n a.lines.now (leaf_at a.facts.now a.picks.now a.n) a.v x.result x.ensures)
+    let parts-test = c.parts-test in let o = c.parts in let u = c.value_at in let e = c.elements in let d = c.agrees-decisive in let x = c.node_at-x in let a = c.args in let f = c.is_fixed-fixed in let r = c.agrees in fixed_ends _ _ _ _ _ _ _ _ _ _ _ _ _ e.invariant.4 x.result.first (still_is a.n a.lines.now (leaf_at a.facts.now a.picks.now a.n) a.v x.result x.ensures)
     (value_in (set e.values x.result.level u.result))
-    (value_of x.result.kind (element_in a.lines.now x.result.range (x.result.count - e.left)) (value_in a.t6 x.result.level))
-    (values_are a.t6 _ _ _ _ e.values e.invariant.2 u.ensures)
+    (value_of x.result.kind (element_in a.lines.now x.result.range (x.result.count - e.left)) (value_in a.env x.result.level))
+    (values_are a.env _ _ _ _ e.values e.invariant.2 u.ensures)
     o.i (omega (arith, parts-test.true)) (sym f.ensures ∙ c.if-fixed.true)
-    c.if-is_known.b r.result (cell t ((goal.at.returns-then-fixed c).Joined-is_known)) r.ensures c.if-agrees.true d.result d.ensures c.if-decisive.false o.answer o.invariant.2
+    c.if-is_known.b r.result (cell t ((goal.at.returns-then-fixed t c).Joined-is_known)) r.ensures c.if-agrees.true d.result d.ensures c.if-decisive.false o.answer o.invariant.2
 
 pub returns-else-decisive-2 : goal.returns-else-decisive-2
 returns-else-decisive-2 t c =
-    let a = c.args in let x = c.node_at-x in
-    let d = c.agrees-decisive in let e = c.elements in
-    let u = c.value_at in let o = c.parts in
-    none_ends _ _ _ _ _ _ _ _ _ _ _ _ _ e.invariant.4 (omega (arith, c.elements-test.true, e.invariant.0))
-    (value_in (set e.values x.result.level u.result)) (values_are a.t6 _ _ _ _ e.values e.invariant.2 u.ensures)
+    let a = c.args in let x = c.node_at-x in let d = c.agrees-decisive in let e = c.elements in let u = c.value_at in let o = c.parts in none_ends _ _ _ _ _ _ _ _ _ _ _ _ _ e.invariant.4 (omega (arith, c.elements-test.true, e.invariant.0))
+    (value_in (set e.values x.result.level u.result)) (values_are a.env _ _ _ _ e.values e.invariant.2 u.ensures)
     o.i o.invariant.3 d.result d.ensures
     (omega arith) c.if-decisive-2.false

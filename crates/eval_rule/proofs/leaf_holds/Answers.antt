@@ -11,6 +11,4 @@ pub literal_holds-b-requires : goal.literal_holds-b-requires
 literal_holds-b-requires c = (c.requires.0.some, number_small c.args.n c.args.lines.now c.requires.0 c.args.i c.part_number-k.result c.line_at-line.result c.args.env c.line_at-line.ensures c.requires.2 c.part_number-k.ensures)
 
 pub returns : goal.returns
-returns c =
-    let part-number = c.part_number-k in let line_at_lem = c.line_at-line in
-    leaf_is _ _ _ _ _ line_at_lem.result _ part-number.result c.literal_holds-b.result _ line_at_lem.ensures part-number.ensures c.literal_holds-b.ensures c.agrees.ensures
+returns c = let part-number = c.part_number-k in let line_at_lem = c.line_at-line in leaf_is _ _ _ _ _ line_at_lem.result _ part-number.result c.literal_holds-b.result _ line_at_lem.ensures part-number.ensures c.literal_holds-b.ensures c.agrees.ensures

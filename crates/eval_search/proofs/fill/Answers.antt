@@ -40,8 +40,7 @@ loop-r-smaller c = omega (arith, c.loop-r-test.true)
 
 pub loop-r-preserved : goal.loop-r-preserved
 loop-r-preserved c =
-    let i = c.loop-r.invariant in let l = c.loop-r-test.true in let e = c.relation_line-line.ensures in let k = c.cells_in-count.ensures in let g = c.fill_rows.ensures in
-    let f = walk_few _ _ _ _ _ _ _ c.requires.0 (omega (arith, l)) e k i.2 i.1 in (
+    let i = c.loop-r.invariant in let l = c.loop-r-test.true in let e = c.relation_line-line.ensures in let k = c.cells_in-count.ensures in let g = c.fill_rows.ensures in let f = walk_few _ _ _ _ _ _ _ c.requires.0 (omega (arith, l)) e k i.2 i.1 in (
       omega (arith, l),
       words_more c.args.table.now c.loop-r.r _ _ _ _ c.words_in-word.ensures (words_sum _ _ _ c.words_in-word.result _ e i.1),
       walk_left _ _ _ _ _ _ _ c.requires.0 (omega (arith, l)) e k i.2 i.1,

@@ -10,9 +10,7 @@ returns-then-join-lt2 c = block_quantifier c.args.turns c.requires c.args.x c.ar
 
 pub returns-then-kind-lt2 : goal.returns-then-kind-lt2
 returns-then-kind-lt2 c =
-    let wide3 = c.wide-level in let wide2 = c.wide-join in
-    let wide-there = c.wide-kind in
-    block_fused c.args.turns c.requires c.args.x c.args.q c.args.y wide-there.result wide3.result wide2.result c.wide-first.result c.wide-many.result c.range_of-range.result
+    let wide3 = c.wide-level in let wide2 = c.wide-join in let wide-there = c.wide-kind in block_fused c.args.turns c.requires c.args.x c.args.q c.args.y wide-there.result wide3.result wide2.result c.wide-first.result c.wide-many.result c.range_of-range.result
     wide-there.ensures wide3.ensures wide2.ensures c.wide-first.ensures c.wide-many.ensures c.range_of-range.ensures (omega arith) (omega arith) (omega arith)
 
 pub returns : goal.returns

@@ -10,13 +10,14 @@ use Rattle.problem_layout.specs.TurnLaws.{one_more}
 use Rattle.eval_table.specs.Lined.{node_of}
 use Rattle.eval_table.specs.Numbers.{node_numbers, node_lines, node_turn}
 use Rattle.eval_table.proofs.fill_nodes.Goals as goal
+use Rattle.eval_table.proofs.fill_nodes.Goals.{After-wide, In-loop-v}
 
 -- the loop stands at one of 64 nodes
-few : (c : goal.In-loop-v) → c.loop-v.v < 64
+few : (c : In-loop-v) → c.loop-v.v < 64
 few c = omega (arith, c.loop-v-test.true, c.requires.2.few)
 
 -- its sort is one of nine
-sort-small : (c : goal.After-wide) → c.wide.result < 9
+sort-small : (c : After-wide) → c.wide.result < 9
 sort-small c = omega (arith, c.wide.ensures.0, (c.requires.2.nodes.node c.loop-v.v).sort)
 
 pub loop-v-init : goal.loop-v-init
@@ -51,9 +52,7 @@ loop-v-smaller c = omega (arith, c.loop-v-test.true)
 
 pub loop-v-preserved : goal.loop-v-preserved
 loop-v-preserved c =
-    let l = c.loop-v in
-    let e = c.node_line-line.ensures in
-    let q = e.0 ∙ ap (λ (σ : ℕ). node_numbers (node_of (get_or c.args.ranges.count σ 0) c.args.t (get_or c.args.t.rows l.v no_node))) c.wide.ensures.0 in (
+    let l = c.loop-v in let e = c.node_line-line.ensures in let q = e.0 ∙ ap (λ (σ : ℕ). node_numbers (node_of (get_or c.args.ranges.count σ 0) c.args.t (get_or c.args.t.rows l.v no_node))) c.wide.ensures.0 in (
       omega (arith, c.loop-v-test.true),
       c.store.auto.0 ∙ l.invariant.1,
       node_turn c.args.ranges.count c.args.t l.lines c.args.lines.now c.store.new.0 l.v _ c.requires.0 (few ((goal.at.loop-v-preserved c).In-loop-v)) q l.invariant.2 c.store.ensures,

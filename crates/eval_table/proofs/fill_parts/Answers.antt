@@ -18,10 +18,10 @@ pub loop-i-init : goal.loop-i-init
 loop-i-init c = (omega arith, refl, tab_none (part_lines c.args.n c.args.value c.args.g c.args.t) 448 c.args.lines.now, λ u h. absurd (omega arith))
 
 pub offset_bounds-t-i : goal.offset_bounds-t-i
-offset_bounds-t-i c = omega (arith, c.requires.4.few-parts)
+offset_bounds-t-i c = omega (arith, c.requires.4.few_parts)
 
 pub bounds-t-i : goal.bounds-t-i
-bounds-t-i c = omega (arith, c.requires.4.few-parts)
+bounds-t-i c = omega (arith, c.requires.4.few_parts)
 
 pub part_line-line-requires : goal.part_line-line-requires
 part_line-line-requires c =
@@ -29,19 +29,19 @@ part_line-line-requires c =
     (c.requires.1, c.requires.2, c.requires.4.parts.part c.loop-i.i, omega (arith, len), bits_of.ensures.0, bits_of.ensures.1, c.requires.5)
 
 pub overflow_mul-i : goal.overflow_mul-i
-overflow_mul-i c = omega (arith, c.requires.4.few-parts)
+overflow_mul-i c = omega (arith, c.requires.4.few_parts)
 
 pub overflow_add-i : goal.overflow_add-i
-overflow_add-i c = omega (arith, c.requires.4.few-parts)
+overflow_add-i c = omega (arith, c.requires.4.few_parts)
 
 pub store-requires : goal.store-requires
-store-requires c = omega (arith, c.requires.4.few-parts, c.requires.0, c.loop-i.invariant.1)
+store-requires c = omega (arith, c.requires.4.few_parts, c.requires.0, c.loop-i.invariant.1)
 
 pub overflow_add-i-in-loop-i : goal.overflow_add-i-in-loop-i
-overflow_add-i-in-loop-i c = omega (arith, c.requires.4.few-parts)
+overflow_add-i-in-loop-i c = omega (arith, c.requires.4.few_parts)
 
 pub loop-i-smaller : goal.loop-i-smaller
-loop-i-smaller c = omega (arith, c.requires.4.few-parts)
+loop-i-smaller c = omega (arith, c.requires.4.few_parts)
 
 -- src/lib.rt:213:5
 pub loop-i-preserved : goal.loop-i-preserved
@@ -56,7 +56,7 @@ loop-i-preserved c =
           c.args.lines.now
           c.store.new.0 c.loop-i.i _
           c.requires.0
-          (omega (arith, c.requires.4.few-parts)) e.0
+          (omega (arith, c.requires.4.few_parts)) e.0
           c.loop-i.invariant.2 c.store.ensures,
       one_more (λ (u : ℕ). Most (part_lines c.args.n c.args.value
           c.args.g

@@ -4,6 +4,4 @@ use Rattle.definitions.specs.Reply.Outcome.{reply_number, reply_place}
 use Rattle.nendokwe.proofs.nendokwe_allowances.Goals as goal
 
 pub returns : goal.returns
-returns c =
-    let allowances = c.allowances-r in
-    (c.tell.ensures.number_after ∙ ap reply_number allowances.ensures.0, (c.tell.ensures.place_after ∙ ap reply_place allowances.ensures.0, allowances.ensures.1))
+returns c = let allowances = c.allowances-r in record { number_after = c.tell.ensures.number_after ∙ ap reply_number allowances.ensures.answer; place_after = c.tell.ensures.place_after ∙ ap reply_place allowances.ensures.answer; allowances_after = allowances.ensures.left }

@@ -4,6 +4,4 @@ use Rattle.definitions.specs.Reply.Outcome.{reply_number, reply_place}
 use Rattle.nendokwe.proofs.nendokwe_build.Goals as goal
 
 pub returns : goal.returns
-returns c =
-    let build-lent = c.build_lent-r in
-    (c.tell.ensures.number_after ∙ ap reply_number build-lent.ensures.0, (c.tell.ensures.place_after ∙ ap reply_place build-lent.ensures.0, build-lent.ensures.1))
+returns c = let build-lent = c.build_lent-r in (c.tell.ensures.number_after ∙ ap reply_number build-lent.ensures.answer, (c.tell.ensures.place_after ∙ ap reply_place build-lent.ensures.answer, build-lent.ensures.1))

@@ -4,6 +4,4 @@ use Rattle.definitions.specs.Reply.Outcome.{reply_number, reply_place}
 use Rattle.nendokwe.proofs.nendokwe_build_layers.Goals as goal
 
 pub returns : goal.returns
-returns c =
-    let build-layers-lent = c.build_layers_lent-r in
-    (c.tell.ensures.number_after ∙ ap reply_number build-layers-lent.ensures.0, (c.tell.ensures.place_after ∙ ap reply_place build-layers-lent.ensures.0, build-layers-lent.ensures.1))
+returns c = let build-layers-lent = c.build_layers_lent-r in (c.tell.ensures.number_after ∙ ap reply_number build-layers-lent.ensures.answer, (c.tell.ensures.place_after ∙ ap reply_place build-layers-lent.ensures.answer, build-layers-lent.ensures.1))

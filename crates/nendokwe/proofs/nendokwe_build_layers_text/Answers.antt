@@ -4,6 +4,4 @@ use Rattle.definitions.specs.Reply.Outcome.{reply_number, reply_place}
 use Rattle.nendokwe.proofs.nendokwe_build_layers_text.Goals as goal
 
 pub returns : goal.returns
-returns c =
-    let build-layers-text = c.build_layers_text-r in
-    (c.tell.ensures.number_after ∙ ap reply_number build-layers-text.ensures.0, (c.tell.ensures.place_after ∙ ap reply_place build-layers-text.ensures.0, build-layers-text.ensures.1))
+returns c = let build-layers-text = c.build_layers_text-r in (c.tell.ensures.number_after ∙ ap reply_number build-layers-text.ensures.answer, (c.tell.ensures.place_after ∙ ap reply_place build-layers-text.ensures.answer, build-layers-text.ensures.1))

@@ -4,6 +4,4 @@ use Rattle.definitions.specs.Reply.Outcome.{reply_number, reply_place}
 use Rattle.nendokwe.proofs.nendokwe_find.Goals as goal
 
 pub returns : goal.returns
-returns c =
-    let find = c.find-r in
-    (c.tell.ensures.number_after ∙ ap reply_number find.ensures.0, (c.tell.ensures.place_after ∙ ap reply_place find.ensures.0, find.ensures.1))
+returns c = let find = c.find-r in record { number_after = c.tell.ensures.number_after ∙ ap reply_number find.ensures.answer; place_after = c.tell.ensures.place_after ∙ ap reply_place find.ensures.answer; picks_after = find.ensures.left }

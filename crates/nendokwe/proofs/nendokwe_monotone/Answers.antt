@@ -4,4 +4,4 @@ use Rattle.definitions.specs.Reply.Outcome.{reply_number, reply_place}
 use Rattle.nendokwe.proofs.nendokwe_monotone.Goals as goal
 
 pub returns : goal.returns
-returns c = (c.tell.ensures.number_after ∙ ap reply_number c.monotone-r.ensures, c.tell.ensures.place_after ∙ ap reply_place c.monotone-r.ensures)
+returns c = record { number_after = c.tell.ensures.number_after ∙ ap reply_number c.monotone-r.ensures; place_after = c.tell.ensures.place_after ∙ ap reply_place c.monotone-r.ensures }

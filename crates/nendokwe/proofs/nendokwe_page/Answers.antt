@@ -4,6 +4,4 @@ use Rattle.definitions.specs.Reply.Outcome.{reply_number, reply_place}
 use Rattle.nendokwe.proofs.nendokwe_page.Goals as goal
 
 pub returns : goal.returns
-returns c =
-    let page-lent = c.page_lent-r in
-    (c.tell.ensures.number_after ∙ ap reply_number page-lent.ensures.0, (c.tell.ensures.place_after ∙ ap reply_place page-lent.ensures.0, page-lent.ensures.1))
+returns c = let page-lent = c.page_lent-r in (c.tell.ensures.number_after ∙ ap reply_number page-lent.ensures.answer, (c.tell.ensures.place_after ∙ ap reply_place page-lent.ensures.answer, page-lent.ensures.1))

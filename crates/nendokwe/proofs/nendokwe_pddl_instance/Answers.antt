@@ -4,6 +4,4 @@ use Rattle.definitions.specs.Reply.Outcome.{reply_number, reply_place}
 use Rattle.nendokwe.proofs.nendokwe_pddl_instance.Goals as goal
 
 pub returns : goal.returns
-returns c =
-    let instance = c.instance-r in
-    (c.tell.ensures.number_after ∙ ap reply_number instance.ensures.0, (c.tell.ensures.place_after ∙ ap reply_place instance.ensures.0, instance.ensures.1))
+returns c = let instance = c.instance-r in record { number_after = c.tell.ensures.number_after ∙ ap reply_number instance.ensures.answer; place_after = c.tell.ensures.place_after ∙ ap reply_place instance.ensures.answer; out_after = instance.ensures.text }

@@ -4,6 +4,4 @@ use Rattle.definitions.specs.Reply.Outcome.{reply_number, reply_place}
 use Rattle.nendokwe.proofs.nendokwe_pddl_plan_text.Goals as goal
 
 pub returns : goal.returns
-returns c =
-    let plan_text_lem = c.plan_text-r in
-    (c.tell.ensures.number_after ∙ ap reply_number plan_text_lem.ensures.0, (c.tell.ensures.place_after ∙ ap reply_place plan_text_lem.ensures.0, plan_text_lem.ensures.1))
+returns c = let plan_text_lem = c.plan_text-r in record { number_after = c.tell.ensures.number_after ∙ ap reply_number plan_text_lem.ensures.answer; place_after = c.tell.ensures.place_after ∙ ap reply_place plan_text_lem.ensures.answer; out_after = plan_text_lem.ensures.text }

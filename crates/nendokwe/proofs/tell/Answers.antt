@@ -6,8 +6,8 @@ use Rattle.nendokwe.proofs.tell.Goals as goal
 
 pub returns-in-Accepted : goal.returns-in-Accepted
 unfolding reply_number result_of reply_place
-returns-in-Accepted c = (sym (ap (λ (x : _). reply_number (result_of x)) c.in-Accepted.is), sym (ap (λ (x : _). reply_place (result_of x)) c.in-Accepted.is))
+returns-in-Accepted c = record { number_after = sym (ap (λ (x : _). reply_number (result_of x)) c.in-Accepted.is); place_after = sym (ap (λ (x : _). reply_place (result_of x)) c.in-Accepted.is) }
 
 pub returns-in-Refused : goal.returns-in-Refused
 unfolding reply_number result_of reply_place
-returns-in-Refused c = (sym (ap (λ (x : _). reply_number (result_of x)) c.in-Refused.is), sym (ap (λ (x : _). reply_place (result_of x)) c.in-Refused.is))
+returns-in-Refused c = record { number_after = sym (ap (λ (x : _). reply_number (result_of x)) c.in-Refused.is); place_after = sym (ap (λ (x : _). reply_place (result_of x)) c.in-Refused.is) }

@@ -16,10 +16,9 @@ pub ground_case-m-requires : goal.ground_case-m-requires
 ground_case-m-requires c =
     let L = limits c.args.most c.args.limits in
     let (x, e, h, l) = filed_read L _ _ _ _ _ (c.read_filed-o.ensures L refl) c.if-fault-ne0.false in
-    ((c.requires.table_len.0, c.requires.table_len.1, c.requires.most_bound.1, c.requires.most_bound.2), record { case = x.case; facts = _; holds = h })
+    record { table_len = (c.requires.table_len.0, c.requires.table_len.1, c.requires.most_bound.1, c.requires.most_bound.2); read = record { case = x.case; facts = _; holds = h } }
 
 pub returns : goal.returns
 returns c =
-    let read-filed = c.read_filed-o in
-    let L = limits c.args.most c.args.limits in
+    let read-filed = c.read_filed-o in let L = limits c.args.most c.args.limits in
     fronts_read L c.requires.most_bound.0 _ _ _ _ _ (read-filed.ensures L refl) c.if-fault-ne0.false _ _ (λ x h. c.ground_case-m.ensures L x _ refl refl refl h) _ refl

@@ -4,7 +4,7 @@ use Rattle.open_case.specs.Rooms.{many_room}
 use Rattle.open_tries.proofs.begin.Goals as goal
 
 pub begin_in-requires : goal.begin_in-requires
-begin_in-requires c = ((c.is_small.ensures c.if-is_small.true, zeros_clear 512), c.requires)
+begin_in-requires c = record { facts_room = (c.is_small.ensures c.if-is_small.true, zeros_clear 512); table_value = c.requires }
 
 pub begin_in-requires-2 : goal.begin_in-requires-2
-begin_in-requires-2 c = ((many_room _, zeros_clear 32768), c.requires)
+begin_in-requires-2 c = record { facts_room = (many_room _, zeros_clear 32768); table_value = c.requires }

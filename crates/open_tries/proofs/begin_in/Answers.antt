@@ -6,40 +6,26 @@ use Rattle.open_tries.specs.Laws.{begun_case, begun_over, begun_short, begun_ato
 use Rattle.open_tries.proofs.begin_in.Goals as goal
 
 pub returns-then-f-ne0 : goal.returns-then-f-ne0
-returns-then-f-ne0 c =
-    let a = c.args in
-    begun_case _ _ _ a.state.now a.many _ _ _ c.open_case-f.ensures c.if-f-ne0.true _ c.not_begun.ensures
+returns-then-f-ne0 c = let a = c.args in begun_case _ _ _ a.state.now a.many _ _ _ c.open_case-f.ensures c.if-f-ne0.true _ c.not_begun.ensures
 
 pub returns-then-m-ne0 : goal.returns-then-m-ne0
-returns-then-m-ne0 c =
-    let a = c.args in
-    let opens = c.open_case-f.ensures in
-    begun_over _ _ _ a.state.now a.many _ _ _ opens c.if-f-ne0.false c.if-m-ne0.true _ c.not_begun-then-m-ne0.ensures
+returns-then-m-ne0 c = let a = c.args in let opens = c.open_case-f.ensures in begun_over _ _ _ a.state.now a.many _ _ _ opens c.if-f-ne0.false c.if-m-ne0.true _ c.not_begun-then-m-ne0.ensures
 
 pub overflow_add-words : goal.overflow_add-words
-overflow_add-words c =
-    let a = c.args in
-    let opens = c.open_case-f.ensures in
-    omega (arith, begun_atoms _ _ _ a.state.now 0 _ _ _ opens c.if-f-ne0.false c.if-m-ne0.false)
+overflow_add-words c = let a = c.args in let opens = c.open_case-f.ensures in omega (arith, begun_atoms _ _ _ a.state.now 0 _ _ _ opens c.if-f-ne0.false c.if-m-ne0.false)
 
 pub returns-then-state-words : goal.returns-then-state-words
 returns-then-state-words c =
-    let a = c.args in
-    let opens = c.open_case-f.ensures in
-    begun_short _ _ _ a.state.now a.many _ _ _ opens c.if-f-ne0.false
+    let a = c.args in let opens = c.open_case-f.ensures in begun_short _ _ _ a.state.now a.many _ _ _ opens c.if-f-ne0.false
     c.if-m-ne0.false c.if-state-words.true _ c.not_begun-then-state-words.ensures
 
 pub slice_bounds-initial_state-end-2 : goal.slice_bounds-initial_state-end-2
 slice_bounds-initial_state-end-2 c = sym (length-take-le _ _ (omega arith))
 
 pub initial_state-requires : goal.initial_state-requires
-initial_state-requires c =
-    let a = c.args in
-    let opens = c.open_case-f.ensures in
-    begun_fits _ _ _ a.state.now 0 _ _ _ opens c.if-f-ne0.false c.if-m-ne0.false (omega arith)
+initial_state-requires c = let a = c.args in let opens = c.open_case-f.ensures in begun_fits _ _ _ a.state.now 0 _ _ _ opens c.if-f-ne0.false c.if-m-ne0.false (omega arith)
 
 pub returns : goal.returns
 returns c =
-    let a = c.args in
-    begun_ready _ _ _ a.state.now a.many _ _ _ c.open_case-f.ensures c.if-f-ne0.false c.if-m-ne0.false
+    let a = c.args in begun_ready _ _ _ a.state.now a.many _ _ _ c.open_case-f.ensures c.if-f-ne0.false c.if-m-ne0.false
     (omega arith) (omega arith) _ _ c.initial_state.ensures refl

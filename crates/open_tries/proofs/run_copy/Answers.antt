@@ -4,9 +4,7 @@ use Rattle.open_tries.specs.Laws.{list_there, copy_ran}
 use Rattle.open_tries.proofs.run_copy.Goals as goal
 
 pub slice_bounds-run-end-2 : goal.slice_bounds-run-end-2
-slice_bounds-run-end-2 c =
-    let copied = c.copy in
-    list_there _ _ _ copied.new.0 _ c.requires.0 copied.ensures.0
+slice_bounds-run-end-2 c = let copied = c.copy in list_there _ _ _ copied.new.0 _ c.requires.0 copied.ensures.0
 
 pub returns : goal.returns
 returns c =

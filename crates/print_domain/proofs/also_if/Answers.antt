@@ -5,8 +5,9 @@ use native.Mathlib.Omega.{arith}
 use Prim.Native.Nat.{◌^◌, ◌<◌}
 use lib.ListN.{length}
 use Rattle.print_domain.proofs.also_if.Goals as goal
+use Rattle.print_domain.proofs.also_if.Goals.{Start}
 
-short : (c : goal.Start) → (length c.args.out.now < 2 ^ 64) × (c.args.at < 2 ^ 64)
+short : (c : Start) → (length c.args.out.now < 2 ^ 64) × (c.args.at < 2 ^ 64)
 short c = (omega arith, omega arith)
 
 pub returns-then-is : goal.returns-then-is

@@ -6,8 +6,9 @@ use Prim.Native.Nat.{◌^◌, ◌<◌}
 use lib.ListN.{length}
 use Rattle.print_bytes.specs.Emitted.{begin, next as then, finish}
 use Rattle.print_domain.proofs.exists_schema.Goals as goal
+use Rattle.print_domain.proofs.exists_schema.Goals.{After-slice_known-1, Start}
 
-short : (c : goal.Start) → (length c.args.out.now < 2 ^ 64) × (c.args.at < 2 ^ 64)
+short : (c : Start) → (length c.args.out.now < 2 ^ 64) × (c.args.at < 2 ^ 64)
 short c = (omega arith, omega arith)
 
 pub offset_bounds-t-v : goal.offset_bounds-t-v
@@ -29,7 +30,7 @@ pub parameters-own-requires : goal.parameters-own-requires
 parameters-own-requires c = omega (arith, c.wide-width.ensures.0, (c.requires.1.nodes.node c.args.v).width)
 
 pub proof_end-requires : goal.proof_end-requires
-proof_end-requires c = (c.requires.0, proved_fits _ _, c.parameters.ensures.0)
+proof_end-requires c = (c.requires.0, proved_fits _ _, c.parameters-own.ensures.0)
 
 pub returns : goal.returns
-returns c = finish _ (then _ _ (then _ _ (then _ _ (begin _ (exists_parts _ _ c.args.t c.args.v _ _ c.wide-width.ensures.0 _ c.parameters.ensures.2) (short (goal.at.returns c).After-slice_known-1).0 (short (goal.at.returns c).After-slice_known-1).1) c.head-headed.ensures) c.text-opened.ensures) c.under-needed.ensures) c.proof_end.ensures
+returns c = finish _ (then _ _ (then _ _ (then _ _ (begin _ (exists_parts _ _ c.args.t c.args.v _ _ c.wide-width.ensures.0 _ c.parameters-own.ensures.2) (short (goal.at.returns c).After-slice_known-1).0 (short (goal.at.returns c).After-slice_known-1).1) c.head-headed.ensures) c.text-opened.ensures) c.under-needed.ensures) c.proof_end.ensures

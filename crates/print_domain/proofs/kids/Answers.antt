@@ -15,7 +15,7 @@ pub loop-k-init : goal.loop-k-init
 loop-k-init c = (omega arith, begin _ (kids_many _ _ c.args.t c.args.v c.args.end _ c.wide-many.ensures.0) (omega arith) (omega arith))
 
 pub kid-next-requires : goal.kid-next-requires
-kid-next-requires c = (c.requires.0, c.requires.1, c.requires.2, omega (arith, c.wide-many.ensures.0, (c.requires.1.nodes.node c.args.v).parts, c.requires.1.few-parts))
+kid-next-requires c = (c.requires.0, c.requires.1, c.requires.2, omega (arith, c.wide-many.ensures.0, (c.requires.1.nodes.node c.args.v).parts, c.requires.1.few_parts))
 
 pub overflow_add-k : goal.overflow_add-k
 overflow_add-k c = omega (arith, c.wide-many.ensures.1)

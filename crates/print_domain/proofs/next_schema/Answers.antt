@@ -7,8 +7,9 @@ use Prim.Native.Nat.{◌^◌, ◌<◌}
 use lib.ListN.{length}
 use Rattle.print_bytes.specs.Emitted.{begin, next as then, finish}
 use Rattle.print_domain.proofs.next_schema.Goals as goal
+use Rattle.print_domain.proofs.next_schema.Goals.{After-slice_known-1, Start}
 
-short : (c : goal.Start) → (length c.args.out.now < 2 ^ 64) × (c.args.at < 2 ^ 64)
+short : (c : Start) → (length c.args.out.now < 2 ^ 64) × (c.args.at < 2 ^ 64)
 short c = (omega arith, omega arith)
 
 pub offset_bounds-t-v : goal.offset_bounds-t-v
@@ -36,7 +37,7 @@ pub parameters-own-requires : goal.parameters-own-requires
 parameters-own-requires c = omega (arith, c.wide-width.ensures.0, (c.requires.1.nodes.node c.args.v).width)
 
 pub with_term-before-requires : goal.with_term-before-requires
-with_term-before-requires c = (omega (arith, c.parameters.ensures.1, c.wide-width.ensures.0, (c.requires.1.nodes.node c.args.v).width), c.parameters.ensures.0)
+with_term-before-requires c = (omega (arith, c.parameters-own.ensures.1, c.wide-width.ensures.0, (c.requires.1.nodes.node c.args.v).width), c.parameters-own.ensures.0)
 
 pub also-owned-requires : goal.also-owned-requires
 also-owned-requires c = (c.requires.0, proved_fits _ _, c.with_term-before.ensures.0)
@@ -51,7 +52,7 @@ pub overflow_add-width-4 : goal.overflow_add-width-4
 overflow_add-width-4 c = omega (arith, c.wide-width.ensures.1)
 
 pub with_term-after-requires : goal.with_term-after-requires
-with_term-after-requires c = (omega (arith, c.parameters.ensures.1, c.wide-width.ensures.0, (c.requires.1.nodes.node c.args.v).width), c.parameters.ensures.0)
+with_term-after-requires c = (omega (arith, c.parameters-own.ensures.1, c.wide-width.ensures.0, (c.requires.1.nodes.node c.args.v).width), c.parameters-own.ensures.0)
 
 pub proof_end-requires : goal.proof_end-requires
 proof_end-requires c = (c.requires.0, proved_fits _ _, c.with_term-after.ensures.0)
@@ -59,8 +60,8 @@ proof_end-requires c = (c.requires.0, proved_fits _ _, c.with_term-after.ensures
 pub shape_of-out : goal.shape_of-out
 shape_of-out c =
     emits_size (
-    finish _ (then _ _ (then _ _ (then _ _ (then _ _ (then _ _ (begin _ (next_parts _ _ c.args.t c.args.v c.args.end _ c.wide-width.ensures.0 _ c.parameters.ensures.2 _ _ _ _ c.only.ensures.2 c.with_term-both.ensures.2 c.with_term-before.ensures.2 c.with_term-after.ensures.2) (short (goal.at.shape_of-out c).After-slice_known-1).0 (short (goal.at.shape_of-out c).After-slice_known-1).1) c.head-headed.ensures) c.text-opened.ensures) c.also-followed.ensures) c.also-owned.ensures) c.under-needed.ensures) c.proof_end.ensures
+    finish _ (then _ _ (then _ _ (then _ _ (then _ _ (then _ _ (begin _ (next_parts _ _ c.args.t c.args.v c.args.end _ c.wide-width.ensures.0 _ c.parameters-own.ensures.2 _ _ _ _ c.only.ensures.2 c.with_term-both.ensures.2 c.with_term-before.ensures.2 c.with_term-after.ensures.2) (short (goal.at.shape_of-out c).After-slice_known-1).0 (short (goal.at.shape_of-out c).After-slice_known-1).1) c.head-headed.ensures) c.text-opened.ensures) c.also-followed.ensures) c.also-owned.ensures) c.under-needed.ensures) c.proof_end.ensures
     )
 
 pub returns : goal.returns
-returns c = finish _ (then _ _ (then _ _ (then _ _ (then _ _ (then _ _ (begin _ (next_parts _ _ c.args.t c.args.v _ _ c.wide-width.ensures.0 _ c.parameters.ensures.2 _ _ _ _ c.only.ensures.2 c.with_term-both.ensures.2 c.with_term-before.ensures.2 c.with_term-after.ensures.2) (short (goal.at.returns c).After-slice_known-1).0 (short (goal.at.returns c).After-slice_known-1).1) c.head-headed.ensures) c.text-opened.ensures) c.also-followed.ensures) c.also-owned.ensures) c.under-needed.ensures) c.proof_end.ensures
+returns c = finish _ (then _ _ (then _ _ (then _ _ (then _ _ (then _ _ (begin _ (next_parts _ _ c.args.t c.args.v _ _ c.wide-width.ensures.0 _ c.parameters-own.ensures.2 _ _ _ _ c.only.ensures.2 c.with_term-both.ensures.2 c.with_term-before.ensures.2 c.with_term-after.ensures.2) (short (goal.at.returns c).After-slice_known-1).0 (short (goal.at.returns c).After-slice_known-1).1) c.head-headed.ensures) c.text-opened.ensures) c.also-followed.ensures) c.also-owned.ensures) c.under-needed.ensures) c.proof_end.ensures

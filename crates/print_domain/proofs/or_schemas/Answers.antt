@@ -15,7 +15,7 @@ pub loop-i-init : goal.loop-i-init
 loop-i-init c = (omega arith, begin _ (ors_many _ _ c.args.t c.args.v c.args.end _ c.wide-many.ensures.0) (omega arith) (omega arith))
 
 pub or_schema-next-requires : goal.or_schema-next-requires
-or_schema-next-requires c = (c.requires.0, c.requires.1, c.requires.2, omega (arith, c.wide-many.ensures.0, (c.requires.1.nodes.node c.args.v).parts, c.requires.1.few-parts))
+or_schema-next-requires c = (c.requires.0, c.requires.1, c.requires.2, omega (arith, c.wide-many.ensures.0, (c.requires.1.nodes.node c.args.v).parts, c.requires.1.few_parts))
 
 pub overflow_add-i : goal.overflow_add-i
 overflow_add-i c = omega (arith, c.wide-many.ensures.1)

@@ -5,8 +5,9 @@ use mathlib.Core.Path.{◌≡◌}
 use lib.ListN.{length}
 use Rattle.print_domain.specs.Nodes.{terms_none, terms_next, terms_more, terms_all}
 use Rattle.print_domain.proofs.part_terms.Goals as goal
+use Rattle.print_domain.proofs.part_terms.Goals.{Start}
 
-long : (I : tie.invariant-loop) (m : tie.decreases-loop) (c : goal.Start) → length c.args.q.levels ≡ 4
+long : (I : tie.invariant-loop) (m : tie.decreases-loop) (c : Start) → length c.args.q.levels ≡ 4
 long I m c = search rules
 
 pub parameters-t-requires : goal.parameters-t-requires

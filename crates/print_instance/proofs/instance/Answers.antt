@@ -6,8 +6,9 @@ use Prim.Native.Nat.{◌^◌, ◌<◌}
 use lib.ListN.{length}
 use Rattle.print_bytes.specs.Emitted.{begin, next as then, finish}
 use Rattle.print_instance.proofs.instance.Goals as goal
+use Rattle.print_instance.proofs.instance.Goals.{After-shared_slice_known-2-1, Start}
 
-short : (c : goal.Start) → (length c.args.out.now < 2 ^ 64) × (c.args.at < 2 ^ 64)
+short : (c : Start) → (length c.args.out.now < 2 ^ 64) × (c.args.at < 2 ^ 64)
 short c = (omega arith, omega arith)
 
 pub objects-listed-requires : goal.objects-listed-requires

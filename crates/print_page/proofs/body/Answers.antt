@@ -10,11 +10,12 @@ use Rattle.laws.specs.Pages.{lines_at}
 use Rattle.print_line.specs.Printed.{print}
 use Rattle.print_page.specs.Bodies.{rest_from, body_is, rest_cut}
 use Rattle.print_page.proofs.body.Goals as goal
+use Rattle.print_page.proofs.body.Goals.{Start}
 
-short : (c : goal.Start) → length c.args.out.now < 2 ^ 64
+short : (c : Start) → length c.args.out.now < 2 ^ 64
 short c = omega arith
 
-few : (c : goal.Start) → length c.args.steps.now ≤ 10 ^ 7 → c.args.index < 10 ^ 7
+few : (c : Start) → length c.args.steps.now ≤ 10 ^ 7 → c.args.index < 10 ^ 7
 few c h = omega (arith, c.requires.skip_bound.1)
 
 pub overflow_cast-k : goal.overflow_cast-k

@@ -6,7 +6,7 @@ use native.Mathlib.Omega.{arith}
 use Rattle.print_page.proofs.elements.Goals as goal
 
 pub tuple_places-requires : goal.tuple_places-requires
-tuple_places-requires c = ((c.requires.fits.0, relation_small c.args.table.now c.args.a _ c.requires.fits.1 c.in-Set.is, c.requires.fits.2, c.requires.fits.3), c.requires.by_index)
+tuple_places-requires c = record { fits = (c.requires.fits.0, relation_small c.args.table.now c.args.a _ c.requires.fits.1 c.in-Set.is, c.requires.fits.2, c.requires.fits.3); by_index = c.requires.by_index }
 
 pub free-requires : goal.free-requires
 free-requires c = (c.requires.fits.0, (subst (ActFits c.args.table.now) c.in-And.is c.requires.fits.1).0, c.requires.fits.2, c.requires.fits.3)
@@ -21,10 +21,10 @@ pub free_and-requires-in-Forall : goal.free_and-requires-in-Forall
 free_and-requires-in-Forall c = (c.requires.fits.0, (subst (ActFits c.args.table.now) c.in-Forall.is c.requires.fits.1).0, c.requires.fits.2, c.requires.fits.3, (subst (ActFits c.args.table.now) c.in-Forall.is c.requires.fits.1).2)
 
 pub tuple_places-requires-in-MarkIn : goal.tuple_places-requires-in-MarkIn
-tuple_places-requires-in-MarkIn c = ((c.requires.fits.0, in_small c.args.table.now c.args.a _ c.requires.fits.1 c.in-MarkIn.is, c.requires.fits.2, c.requires.fits.3), c.requires.by_index)
+tuple_places-requires-in-MarkIn c = record { fits = (c.requires.fits.0, in_small c.args.table.now c.args.a _ c.requires.fits.1 c.in-MarkIn.is, c.requires.fits.2, c.requires.fits.3); by_index = c.requires.by_index }
 
 pub tuple_places-requires-in-MarkOut : goal.tuple_places-requires-in-MarkOut
-tuple_places-requires-in-MarkOut c = ((c.requires.fits.0, out_small c.args.table.now c.args.a _ c.requires.fits.1 c.in-MarkOut.is, c.requires.fits.2, c.requires.fits.3), c.requires.by_index)
+tuple_places-requires-in-MarkOut c = record { fits = (c.requires.fits.0, out_small c.args.table.now c.args.a _ c.requires.fits.1 c.in-MarkOut.is, c.requires.fits.2, c.requires.fits.3); by_index = c.requires.by_index }
 
 pub returns-in-Set : goal.returns-in-Set
 unfolding elements_in

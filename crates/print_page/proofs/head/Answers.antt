@@ -5,8 +5,9 @@ use lib.ListN.{length}
 use Rattle.print_bytes.specs.Emitted.{begin, next as then, finish}
 use Rattle.print_page.specs.Elements.{head_parts}
 use Rattle.print_page.proofs.head.Goals as goal
+use Rattle.print_page.proofs.head.Goals.{Start}
 
-short : (c : goal.Start) → (length c.args.out.now < 2 ^ 64) × (c.args.at < 2 ^ 64)
+short : (c : Start) → (length c.args.out.now < 2 ^ 64) × (c.args.at < 2 ^ 64)
 short c = (omega arith, omega arith)
 
 pub returns : goal.returns

@@ -25,13 +25,13 @@ pub bounds-names-r-2 : goal.bounds-names-r-2
 bounds-names-r-2 c = omega (arith, c.requires.0.room, c.requires.1)
 
 pub slice_bounds-left-count : goal.slice_bounds-left-count
-slice_bounds-left-count c = (c.requires.0.in-text c.args.r).0
+slice_bounds-left-count c = (c.requires.0.in_text c.args.r).0
 
 pub slice_bounds-left-start : goal.slice_bounds-left-start
-slice_bounds-left-start c = (c.requires.0.in-text c.args.r).0
+slice_bounds-left-start c = (c.requires.0.in_text c.args.r).0
 
 pub slice_bounds-left-end : goal.slice_bounds-left-end
-slice_bounds-left-end c = (c.requires.0.in-text c.args.r).1
+slice_bounds-left-end c = (c.requires.0.in_text c.args.r).1
 
 pub returns : goal.returns
 unfolding name_in

@@ -7,13 +7,13 @@ use Rattle.print_page.specs.Naming.{Named, named_none, named_next}
 use Rattle.print_page.proofs.names_of.Goals as goal
 
 pub overflow_add-total : goal.overflow_add-total
-overflow_add-total c = omega (arith, c.requires.by_index.1.rels-le, c.requires.by_index.1.chosen-le)
+overflow_add-total c = omega (arith, c.requires.by_index.1.rels_le, c.requires.by_index.1.chosen_le)
 
 pub overflow_add-total-2 : goal.overflow_add-total-2
-overflow_add-total-2 c = omega (arith, c.requires.by_index.1.rels-le, c.requires.by_index.1.chosen-le, c.requires.by_index.1.every-le)
+overflow_add-total-2 c = omega (arith, c.requires.by_index.1.rels_le, c.requires.by_index.1.chosen_le, c.requires.by_index.1.every_le)
 
 pub loop-i-init : goal.loop-i-init
-loop-i-init c = (omega arith, omega (arith, c.requires.by_index.1.rels-le, c.requires.by_index.1.chosen-le, c.requires.by_index.1.every-le), search rules, search rules, search rules, named_none _ _ _ _ c.requires.names_len.0 c.requires.names_len.1)
+loop-i-init c = (omega arith, omega (arith, c.requires.by_index.1.rels_le, c.requires.by_index.1.chosen_le, c.requires.by_index.1.every_le), search rules, search rules, search rules, named_none _ _ _ _ c.requires.names_len.0 c.requires.names_len.1)
 
 pub offset_bounds-from-i : goal.offset_bounds-from-i
 offset_bounds-from-i c = omega (arith, c.loop-i.invariant.1, c.loop-i.invariant.2, c.loop-i.invariant.3, c.loop-i.invariant.4)

@@ -6,8 +6,9 @@ use lib.ListN.{length}
 use lib.Seq.{length-take-le}
 use Rattle.print_page.specs.Bodies.{page_done}
 use Rattle.print_page.proofs.page.Goals as goal
+use Rattle.print_page.proofs.page.Goals.{Start}
 
-short : (c : goal.Start) → length c.args.out.now < 2 ^ 64
+short : (c : Start) → length c.args.out.now < 2 ^ 64
 short c = omega arith
 
 pub slice_bounds-body-end-2 : goal.slice_bounds-body-end-2

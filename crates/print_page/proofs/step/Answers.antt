@@ -12,12 +12,13 @@ use Rattle.print_units.specs.Units.{all_units}
 use Rattle.print_units.specs.Streams.{streamed}
 use Rattle.print_page.specs.Steps.{within_five, step_is, step_none}
 use Rattle.print_page.proofs.step.Goals as goal
+use Rattle.print_page.proofs.step.Goals.{Start}
 
-short : (c : goal.Start) → (length c.args.out.now < 2 ^ 64) × (c.args.at < 2 ^ 64)
+short : (c : Start) → (length c.args.out.now < 2 ^ 64) × (c.args.at < 2 ^ 64)
 short c = (omega arith, omega arith)
 
 pub elements-count-requires : goal.elements-count-requires
-elements-count-requires c = ((c.requires.0.fits, c.action_at-a.ensures.0, omega arith, within_five _ c.requires.0.fits.some), (_, c.requires.1))
+elements-count-requires c = record { fits = (c.requires.0.fits, c.action_at-a.ensures.0, omega arith, within_five _ c.requires.0.fits.some); by_index = (_, c.requires.1) }
 
 pub part_of-part-requires : goal.part_of-part-requires
 part_of-part-requires c = (c.requires.0.fits, c.action_at-a.ensures.0)
@@ -31,14 +32,11 @@ head-headed-requires c =
 
 pub units-requires : goal.units-requires
 units-requires c =
-    (
-      (
+    record { by_index = (
         _,
         c.requires.2,
         c.elements-count.ensures.2,
-      ),
-      omega (arith, c.elements-count.ensures.0),
-    )
+      ); count_in_bounds = omega (arith, c.elements-count.ensures.0) }
 
 pub returns-then-is_there : goal.returns-then-is_there
 returns-then-is_there c =

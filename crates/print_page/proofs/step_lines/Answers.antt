@@ -11,18 +11,15 @@ use Rattle.print_page.specs.Steps.{within_five, step_count, step_none}
 use Rattle.print_page.proofs.step_lines.Goals as goal
 
 pub elements-count-requires : goal.elements-count-requires
-elements-count-requires c = ((c.requires.0.fits, c.action_at-a.ensures.0, omega arith, within_five _ c.requires.0.fits.some), c.requires.1)
+elements-count-requires c = record { fits = (c.requires.0.fits, c.action_at-a.ensures.0, omega arith, within_five _ c.requires.0.fits.some); by_index = c.requires.1 }
 
 pub part_of-part-requires : goal.part_of-part-requires
 part_of-part-requires c = (c.requires.0.fits, c.action_at-a.ensures.0)
 
 pub lines-requires : goal.lines-requires
 lines-requires c =
-    (
-      (_, c.requires.2, c.elements-count.ensures.2),
-      omega
-          (arith, c.elements-count.ensures.0),
-    )
+    record { by_index = (_, c.requires.2, c.elements-count.ensures.2); count_in_bounds = omega
+          (arith, c.elements-count.ensures.0) }
 
 pub returns-then-is_there : goal.returns-then-is_there
 returns-then-is_there c =

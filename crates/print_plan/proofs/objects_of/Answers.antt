@@ -7,7 +7,7 @@ use Rattle.print_plan.specs.Lines.{objects_in, objects_as}
 use Rattle.print_plan.proofs.objects_of.Goals as goal
 
 pub tuple_places-requires : goal.tuple_places-requires
-tuple_places-requires c = ((c.requires.fits.0, relation_small c.args.table.now c.args.a _ c.requires.fits.1 c.in-Set.is, omega (arith, c.requires.fits.2), c.requires.fits.3), c.requires.by_index)
+tuple_places-requires c = record { fits = (c.requires.fits.0, relation_small c.args.table.now c.args.a _ c.requires.fits.1 c.in-Set.is, omega (arith, c.requires.fits.2), c.requires.fits.3); by_index = c.requires.by_index }
 
 pub free-requires : goal.free-requires
 free-requires c = (c.requires.fits.0, (subst (ActFits c.args.table.now) c.in-And.is c.requires.fits.1).0, omega (arith, c.requires.fits.2), c.requires.fits.3)

@@ -8,12 +8,13 @@ use Rattle.print_names.specs.Naming.{SmallName, word_in}
 use mathlib.Core.Path.{subst}
 use Rattle.print_plan.specs.Lines.{within_six, small_name, line_of, line_parts}
 use Rattle.print_plan.proofs.step.Goals as goal
+use Rattle.print_plan.proofs.step.Goals.{Start}
 
-short : (c : goal.Start) → (length c.args.out.now < 2 ^ 64) × (c.args.at < 2 ^ 64)
+short : (c : Start) → (length c.args.out.now < 2 ^ 64) × (c.args.at < 2 ^ 64)
 short c = (omega arith, omega arith)
 
 pub objects_of-count-requires : goal.objects_of-count-requires
-objects_of-count-requires c = ((c.requires.0.fits, c.action_at-a.ensures.0, omega arith, within_six _ c.requires.0.fits.some), (_, c.requires.1))
+objects_of-count-requires c = record { fits = (c.requires.0.fits, c.action_at-a.ensures.0, omega arith, within_six _ c.requires.0.fits.some); by_index = (_, c.requires.1) }
 
 pub action_word-named-requires : goal.action_word-named-requires
 action_word-named-requires c = (c.requires.1, subst SmallName (sym c.name_of-name.ensures) (small_name _ _ c.action_at-a.ensures.0))

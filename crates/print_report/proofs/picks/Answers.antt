@@ -24,7 +24,7 @@ picked-next-requires c =
     )
 
 pub overflow_add-j : goal.overflow_add-j
-overflow_add-j c = omega (arith, c.requires.0.chosen-le)
+overflow_add-j c = omega (arith, c.requires.0.chosen_le)
 
 pub loop-j-smaller : goal.loop-j-smaller
 loop-j-smaller c = omega arith
@@ -42,6 +42,4 @@ pub shape_of-out : goal.shape_of-out
 shape_of-out c = left_length c.loop-j.invariant.1
 
 pub returns : goal.returns
-returns c =
-    let a = c.args in
-    finished (recut (no_text (picks_at (said_by a.site.now a.labels.now) a.q.now a.g a.n a.words.now) c.loop-j.j a.g.chosen (omega arith)) c.loop-j.invariant.1)
+returns c = let a = c.args in finished (recut (no_text (picks_at (said_by a.site.now a.labels.now) a.q.now a.g a.n a.words.now) c.loop-j.j a.g.chosen (omega arith)) c.loop-j.invariant.1)

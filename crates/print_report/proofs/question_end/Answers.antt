@@ -1,4 +1,3 @@
--- `print_report::question_end` meets its contract. Among the lines that the loop has passed none is a `rule` line.
 use Prim.Native.Nat.{◌-◌, min}
 use mathlib.Core.Path.{sym, ap, ◌∙◌}
 use native.Mathlib.Omega.{arith}
@@ -17,19 +16,13 @@ pub is_record-requires : goal.is_record-requires
 is_record-requires c = (c.line-l.ensures.begins, c.line-l.ensures.ends)
 
 pub returns-then-is_record : goal.returns-then-is_record
-returns-then-is_record c =
-    let line = c.line-l in let s = c.args.s.now in
-    sym (ap (λ k. min k (length s)) c.loop-at.invariant.1 ∙ rule_here s c.loop-at.at line.result.end line.result.next line.ensures (sym c.is_record.ensures ∙ c.if-is_record.true))
+returns-then-is_record c = let line = c.line-l in let s = c.args.s.now in sym (ap (λ k. min k (length s)) c.loop-at.invariant.1 ∙ rule_here s c.loop-at.at line.result.end line.result.next line.ensures (sym c.is_record.ensures ∙ c.if-is_record.true))
 
 pub loop-at-smaller : goal.loop-at-smaller
 loop-at-smaller c = omega (arith, c.line-l.ensures.further, c.line-l.ensures.within)
 
 pub loop-at-preserved : goal.loop-at-preserved
-loop-at-preserved c =
-    let line = c.line-l in let s = c.args.s.now in
-    (line.ensures.within, c.loop-at.invariant.1 ∙ rule_later s c.loop-at.at line.result.end line.result.next line.ensures (sym c.is_record.ensures ∙ c.if-is_record.false))
+loop-at-preserved c = let line = c.line-l in let s = c.args.s.now in (line.ensures.within, c.loop-at.invariant.1 ∙ rule_later s c.loop-at.at line.result.end line.result.next line.ensures (sym c.is_record.ensures ∙ c.if-is_record.false))
 
 pub returns : goal.returns
-returns c =
-    let s = c.args.s.now in
-    sym (ap (λ k. min k (length s)) c.loop-at.invariant.1 ∙ no_rule s c.loop-at.at (omega arith))
+returns c = let s = c.args.s.now in sym (ap (λ k. min k (length s)) c.loop-at.invariant.1 ∙ no_rule s c.loop-at.at (omega arith))

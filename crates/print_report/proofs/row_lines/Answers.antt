@@ -30,8 +30,7 @@ loop-row-smaller c = omega arith
 
 pub loop-row-preserved : goal.loop-row-preserved
 loop-row-preserved c =
-    let a = c.args in
-    let p = c.requires in (
+    let a = c.args in let p = c.requires in (
       omega arith,
       then (row_line (said_by a.site.now a.labels.now) a.words.now a.first a.name.now a.n a.arity c.loop-row.row) _
           (recut (next_text (row_line (said_by a.site.now a.labels.now) a.words.now a.first a.name.now a.n a.arity) c.loop-row.row
@@ -42,6 +41,4 @@ pub shape_of-out : goal.shape_of-out
 shape_of-out c = left_length c.loop-row.invariant.1
 
 pub returns : goal.returns
-returns c =
-    let a = c.args in
-    finished (recut (no_text (row_line (said_by a.site.now a.labels.now) a.words.now a.first a.name.now a.n a.arity) c.loop-row.row (a.n ^ a.arity) (omega (arith, c.requires.2))) c.loop-row.invariant.1)
+returns c = let a = c.args in finished (recut (no_text (row_line (said_by a.site.now a.labels.now) a.words.now a.first a.name.now a.n a.arity) c.loop-row.row (a.n ^ a.arity) (omega (arith, c.requires.2))) c.loop-row.invariant.1)

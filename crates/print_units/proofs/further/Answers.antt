@@ -1,7 +1,7 @@
 -- `print_units::further` meets its contract.
 use native.Mathlib.Omega.{arith}
 use mathlib.Core.Path.{◌∙◌, sym, ap}
-use mathlib.Core.List.{◌∷◌, ◌++◌}
+use mathlib.Core.List.{[], ◌∷◌, ◌++◌}
 use Prim.Native.Nat.{ℕ}
 use Rattle.definitions.specs.Reply.Page.{spaces}
 use Rattle.print_bytes.specs.Emitted.{begin, next as then, finish, emits_none, emits_as}

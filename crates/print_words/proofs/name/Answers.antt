@@ -30,13 +30,13 @@ pub bounds-names-r-2 : goal.bounds-names-r-2
 bounds-names-r-2 c = omega (arith, c.requires.0.room, c.requires.1)
 
 pub slice_bounds-text-count : goal.slice_bounds-text-count
-slice_bounds-text-count c = (c.requires.0.in-text c.args.r).0
+slice_bounds-text-count c = (c.requires.0.in_text c.args.r).0
 
 pub slice_bounds-text-start : goal.slice_bounds-text-start
-slice_bounds-text-start c = (c.requires.0.in-text c.args.r).0
+slice_bounds-text-start c = (c.requires.0.in_text c.args.r).0
 
 pub slice_bounds-text-end : goal.slice_bounds-text-end
-slice_bounds-text-end c = (c.requires.0.in-text c.args.r).1
+slice_bounds-text-end c = (c.requires.0.in_text c.args.r).1
 
 pub returns : goal.returns
 unfolding name_in

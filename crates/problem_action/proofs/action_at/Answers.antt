@@ -10,14 +10,15 @@ use Rattle.problem_table.specs.NeedLaws.{set_row_small}
 use Rattle.problem_table.specs.declared.Act.{Act}
 use Rattle.problem_action.specs.Found.{sets_begin, acts_begin, found_pair, found_set, found_begin, found_proof, found_counted, found_goal, found_mark, mark_fits, finish_fits, proof_fits}
 use Rattle.problem_action.proofs.action_at.Goals as goal
+use Rattle.problem_action.proofs.action_at.Goals.{After-relation_line-line}
 
 -- the ranges of the relation's places are in the table, and its offset is that of one of its set actions
-in-places : (c : goal.After-relation_line-line) → PlacesFit c.args.table.now c.relation_line-line.result
+in-places : (c : After-relation_line-line) → PlacesFit c.args.table.now c.relation_line-line.result
 in-places c =
     let l = c.locate-r in
     subst (PlacesFit c.args.table.now) (sym c.relation_line-line.ensures) (c.requires.fits.places l.result (omega (arith, l.ensures.0, c.requires.fits.relations)))
 
-among : (c : goal.After-relation_line-line) → is_whole c.relation_line-line.result ≡ false → c.args.k - get_or c.args.table.now (relation_place c.locate-r.result) 0 < c.relation_line-line.result.first_count * c.relation_line-line.result.second_count
+among : (c : After-relation_line-line) → is_whole c.relation_line-line.result ≡ false → c.args.k - get_or c.args.table.now (relation_place c.locate-r.result) 0 < c.relation_line-line.result.first_count * c.relation_line-line.result.second_count
 among c =
     let l = c.locate-r in
     found_pair c.requires.problem c.args.table.now c.requires.is c.args.k l.result l.ensures.0 l.ensures.1 l.ensures.2 c.relation_line-line.result c.relation_line-line.ensures

@@ -5,17 +5,18 @@ use lib.ListN.{length}
 use Rattle.problem_table.specs.Lines.{table_length}
 use Rattle.problem_layout.specs.FilledLaws.{three_set, all_filled, filled}
 use Rattle.problem_layout.proofs.fill.Goals as goal
+use Rattle.problem_layout.proofs.fill.Goals.{After-fill_nodes, After-fill_parts, After-fill_relations}
 
 -- the table keeps its length
-with-relations : (c : goal.After-fill_relations) → length c.fill_relations.new.0 ≡ table_length
+with-relations : (c : After-fill_relations) → length c.fill_relations.new.0 ≡ table_length
 with-relations c =
     c.fill_relations.auto.0 ∙ three_set c.args.table.now c.args.n c.args.g.count c.args.t.count ∙ c.requires.0
 
-with-nodes : (c : goal.After-fill_nodes) → length c.fill_nodes.new.0 ≡ table_length
-with-nodes c = c.fill_nodes.auto.0 ∙ with-relations «After-fill_relations»
+with-nodes : (c : After-fill_nodes) → length c.fill_nodes.new.0 ≡ table_length
+with-nodes c = c.fill_nodes.auto.0 ∙ with-relations c.TODO-After-fill_relations
 
-with-parts : (c : goal.After-fill_parts) → length c.fill_parts.new.0 ≡ table_length
-with-parts c = c.fill_parts.auto.0 ∙ with-nodes «After-fill_nodes»
+with-parts : (c : After-fill_parts) → length c.fill_parts.new.0 ≡ table_length
+with-parts c = c.fill_parts.auto.0 ∙ with-nodes c.TODO-After-fill_nodes
 
 pub fill_relations-requires : goal.fill_relations-requires
 fill_relations-requires c = (three_set c.args.table.now c.args.n c.args.g.count c.args.t.count ∙ c.requires.0, c.requires.4)

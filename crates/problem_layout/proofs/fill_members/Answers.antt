@@ -13,9 +13,7 @@ pub get-requires : goal.get-requires
 get-requires c = omega (arith, c.requires.1, c.requires.2, c.loop-x-test.true)
 
 pub bounds-table-at : goal.bounds-table-at
-bounds-table-at c =
-    let k = c.loop-x.invariant.1 in
-    omega (arith, c.requires.0, k.few, k.same, c.loop-x-test.true)
+bounds-table-at c = let k = c.loop-x.invariant.1 in omega (arith, c.requires.0, k.few, k.same, c.loop-x-test.true)
 
 pub overflow_add-x : goal.overflow_add-x
 overflow_add-x c = omega arith

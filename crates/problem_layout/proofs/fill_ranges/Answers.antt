@@ -13,7 +13,7 @@ loop-k-init c = (omega arith, refl, λ d e. e ∙ ranges_first _ _ _ c.requires.
 pub fill_members-requires : goal.fill_members-requires
 fill_members-requires c =
     let t = c.loop-k-test.true in (
-      omega (arith, c.requires.0, c.requires.1, t, c.loop-k.invariant.1, c.fill_range.auto.0),
+      omega (arith, c.requires.0, c.requires.1, t, c.loop-k.invariant.1, c.fill_range.auto.table),
       c.requires.1,
       omega (arith, c.requires.3, t),
       omega arith,
@@ -21,16 +21,15 @@ fill_members-requires c =
 
 pub loop-k-preserved : goal.loop-k-preserved
 loop-k-preserved c =
-    let l = c.loop-k in
-    let f = c.fill_members in (
+    let l = c.loop-k in let f = c.fill_members in (
       omega (arith, c.loop-k-test.true),
-      f.auto.0 ∙ l.invariant.1,
+      f.auto.table ∙ l.invariant.1,
       λ d e. ranges_next _ _ _ c.requires.1 _ _ _ d (l.invariant.2 d e) f.ensures,
       l.invariant.3,
     )
 
 pub shape_of-table : goal.shape_of-table
-shape_of-table c = c.loop-k.invariant.1 ∙ c.fill_range.auto.0
+shape_of-table c = c.loop-k.invariant.1 ∙ c.fill_range.auto.table
 
 pub returns : goal.returns
 returns c =

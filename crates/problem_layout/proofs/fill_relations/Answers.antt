@@ -7,10 +7,10 @@ use Rattle.problem_layout.specs.Filled.{relations_place}
 use Rattle.problem_layout.specs.SpliceLaws.{tab_none}
 use Rattle.problem_layout.specs.TurnLaws.{relation_turn, relation_last}
 use Rattle.problem_layout.proofs.fill_relations.Goals as goal
+use Rattle.problem_layout.proofs.fill_relations.Goals.{In-loop-r}
 
 -- the sorts of the places of the relation where the loop stands
-sorts : (c : goal.In-loop-r) → let g = c.args.g in
-    (get_or g.firsts c.loop-r.r 0 ≤ 8) × (get_or g.seconds c.loop-r.r 0 ≤ 8)
+sorts : (c : In-loop-r) → let g = c.args.g in (get_or g.firsts c.loop-r.r 0 ≤ 8) × (get_or g.seconds c.loop-r.r 0 ≤ 8)
 sorts c = let q = c.requires.1 in (q.firsts c.loop-r.r, q.seconds c.loop-r.r)
 
 pub loop-r-init : goal.loop-r-init
@@ -38,7 +38,7 @@ pub loop-r-preserved : goal.loop-r-preserved
 loop-r-preserved c =
     let k = c.loop-r in (
       omega arith,
-      c.store.auto.0 ∙ k.invariant.1,
+      c.store.auto.table ∙ k.invariant.1,
       relation_turn _ _ _ _ _ _ k.invariant.4 _ _ _ _ _ (omega arith) c.place_start-firsts.ensures c.place_count-first_count.ensures c.place_start-seconds.ensures c.place_count-second_count.ensures
           k.invariant.2 c.store.ensures,
       k.invariant.3,
@@ -46,6 +46,4 @@ loop-r-preserved c =
     )
 
 pub returns : goal.returns
-returns c =
-    let k = c.loop-r in
-    relation_last _ _ _ _ _ _ k.invariant.4 _ (omega arith) (omega arith) k.invariant.2 c.store-2.ensures
+returns c = let k = c.loop-r in relation_last _ _ _ _ _ _ k.invariant.4 _ (omega arith) (omega arith) k.invariant.2 c.store-2.ensures

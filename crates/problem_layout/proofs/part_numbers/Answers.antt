@@ -7,11 +7,11 @@ use lib.ListN.{take, get_or}
 use Rattle.rows.specs.Values.{value_in, weight_of}
 use Rattle.problem_layout.specs.PartLaws.{line_last, line_plain, last_most, plain_most, weight_times}
 use Rattle.problem_layout.proofs.part_numbers.Goals as goal
+use Rattle.problem_layout.proofs.part_numbers.Goals.{After-weights-w}
 
 -- the weights are those of the levels that count, and a weight times n is small
-module _ (c : goal.After-weights-w) where
-  weights-are : let q = c.args.q in
-      value_in c.weights-w.result ≡ weight_of c.args.n (take q.width q.levels)
+module _ (c : After-weights-w) where
+  weights-are : let q = c.args.q in value_in c.weights-w.result ≡ weight_of c.args.n (take q.width q.levels)
   weights-are = rw c.wide.ensures.0 at c.weights-w.ensures.0
 
   times : (i : ℕ) → get_or c.weights-w.result i 0 * c.args.n ≤ 65 ^ 4 * 64

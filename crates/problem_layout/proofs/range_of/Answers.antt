@@ -33,6 +33,4 @@ loop-x-preserved c =
 
 pub returns : goal.returns
 unfolding range_by
-returns c =
-    let l = c.loop-x in let e : l.x ≡ c.args.n = omega arith in let k = l.invariant.1 in
-    (rw e at k.count-is, rw e at k.top-is, omega (arith, k.few), k.low)
+returns c = let l = c.loop-x in let e : l.x ≡ c.args.n = omega arith in let k = l.invariant.1 in (rw e at k.count_is, rw e at k.top_is, omega (arith, k.few), k.low)

@@ -6,9 +6,10 @@ use lib.ListN.{get_or, length-set}
 use Rattle.problem_layout.specs.Laid.{seconds_at}
 use Rattle.problem_layout.specs.LaidLaws.{rels_first, rels_next, rel_bound, set_bound, width_le, set_width_le, pow_fits, size_most}
 use Rattle.problem_layout.proofs.relation_starts.Goals as goal
+use Rattle.problem_layout.proofs.relation_starts.Goals.{After-power-size, In-loop-i}
 
 -- what is known of the relation where the loop stands, and of the sums so far
-module _ (c : goal.In-loop-i) where
+module _ (c : In-loop-i) where
   sorts : let g = c.args.g in (get_or g.firsts c.loop-i.i 0 ≤ 8) × (get_or g.seconds c.loop-i.i 0 ≤ 8)
   sorts = let q = c.requires.2 in (q.firsts c.loop-i.i, q.seconds c.loop-i.i)
 
@@ -16,9 +17,9 @@ module _ (c : goal.In-loop-i) where
   low =
       let l = c.loop-i in let a = rel_bound _ _ c.requires.1 c.requires.2 l.i in
       let b = set_bound _ _ c.requires.1 c.requires.2 c.args.ranges.count c.requires.3.count l.i in
-      (omega (arith, l.invariant.5.at-is), omega (arith, l.invariant.5.set_is))
+      (omega (arith, l.invariant.5.at_is), omega (arith, l.invariant.5.set_is))
 
-size_small : (c : goal.After-power-size) → c.power-size.result ≤ 64 ^ 4
+size_small : (c : After-power-size) → c.power-size.result ≤ 64 ^ 4
 size_small c =
     size_most c.args.n _ c.power-size.result c.power-size.ensures c.requires.1 (c.requires.2.arity c.loop-i.i)
 
@@ -65,16 +66,13 @@ set_width-sets-requires c = ((c.requires.3.count (get_or c.args.g.firsts c.loop-
 
 pub overflow_add-sets : goal.overflow_add-sets
 overflow_add-sets c =
-    let k = c.args.g in
-    let i = c.loop-i.i in
-    let q = set_width_le _ _ (seconds_at c.args.ranges.count k _) (get_or k.kind i 0) (size_small (goal.at.overflow_add-sets c).After-power-size) (c.requires.3.count (get_or k.firsts i 0))
+    let k = c.args.g in let i = c.loop-i.i in let q = set_width_le _ _ (seconds_at c.args.ranges.count k _) (get_or k.kind i 0) (size_small (goal.at.overflow_add-sets c).After-power-size) (c.requires.3.count (get_or k.firsts i 0))
     (c.requires.3.count (get_or k.seconds i 0)) in
     omega (arith, low (goal.at.overflow_add-sets c).In-loop-i, c.set_width-sets.ensures, q)
 
 pub loop-i-preserved : goal.loop-i-preserved
 loop-i-preserved c =
-    let k = c.loop-i in
-    (
+    let k = c.loop-i in (
       omega arith,
       length-set k.rel _ _ ∙ k.invariant.1,
       length-set k.neg _ _ ∙ k.invariant.2,

@@ -9,30 +9,31 @@ use Rattle.problem_mentions.specs.Marks.{hits, atoms_after, row_width}
 use Rattle.rule_nodes.specs.Bounds.{which_small}
 use Rattle.problem_mentions.specs.MarkLaws.{hits_none, hits_next, marks_first, marks_next, atoms_first, atoms_next, atoms_bound, counted_le, allowed}
 use Rattle.problem_mentions.proofs.allowance.Goals as goal
+use Rattle.problem_mentions.proofs.allowance.Goals.{After-node_width, After-power-rows, In-nodes, In-parts}
 
 -- the node that is looked at
 abbrev node : tie.In-nodes invariant-parts decreases-parts invariant-nodes decreases-nodes → ℕ
 node c = c.before.before.args.t2.count - (c.before.nodes.done + 1)
 
 -- its part that is looked at is one of the table's
-part_there : (c : goal.In-parts) → c.wide-first.result + c.parts.k < 64
+part_there : (c : In-parts) → c.wide-first.result + c.parts.k < 64
 part_there c =
-    omega (arith, c.wide-first.ensures.0, c.wide-many.ensures.0, c.requires.2.few-parts, (c.requires.2.nodes.node (node «In-nodes»)).parts)
+    omega (arith, c.wide-first.ensures.0, c.wide-many.ensures.0, c.requires.2.few_parts, (c.requires.2.nodes.node (node c.TODO-In-nodes)).parts)
 
 -- how many values its free variables have, and how many atoms it has
-rows_are : (c : goal.After-power-rows) → c.power-rows.result ≡ c.args.n ^ (get_or c.args.t.rows (node «In-nodes») no_node).width
+rows_are : (c : After-power-rows) → c.power-rows.result ≡ c.args.n ^ (get_or c.args.t.rows (node c.TODO-In-nodes) no_node).width
 rows_are c = c.power-rows.ensures ∙ ap (λ (k : ℕ). c.args.n ^ k) c.wide.ensures.0
 
-rows-small : (c : goal.After-power-rows) → c.power-rows.result ≤ 64 ^ 4
+rows-small : (c : After-power-rows) → c.power-rows.result ≤ 64 ^ 4
 rows-small c =
-    size_most c.args.n (get_or c.args.t.rows (node «In-nodes») no_node).width c.power-rows.result (rows_are c) c.requires.1 (c.requires.2.nodes.node (node «In-nodes»)).width
+    size_most c.args.n (get_or c.args.t.rows (node c.TODO-In-nodes) no_node).width c.power-rows.result (rows_are c) c.requires.1 (c.requires.2.nodes.node (node c.TODO-In-nodes)).width
 
-row-width : (c : goal.After-node_width) → c.node_width.result ≡ row_width c.args.n c.args.t (node «In-nodes»)
-row-width c = c.node_width.ensures ∙ ap₂ (node_width c.args.n) (rows_are «After-power») c.wide-kind.ensures.0
+row-width : (c : After-node_width) → c.node_width.result ≡ row_width c.args.n c.args.t (node c.TODO-In-nodes)
+row-width c = c.node_width.ensures ∙ ap₂ (node_width c.args.n) (rows_are c.TODO-After-power-rows) c.wide-kind.ensures.0
 
-width_small : (c : goal.After-node_width) → c.node_width.result ≤ 64 ^ 4 * 64
+width_small : (c : After-node_width) → c.node_width.result ≤ 64 ^ 4 * 64
 width_small c =
-    let w = node_width_le c.args.n c.power-rows.result c.wide-kind.result c.requires.1 (rows-small «After-power») in
+    let w = node_width_le c.args.n c.power-rows.result c.wide-kind.result c.requires.1 (rows-small c.TODO-After-power-rows) in
     omega (arith, c.node_width.ensures)
 
 pub nodes-init : goal.nodes-init
@@ -83,9 +84,7 @@ pub bounds-marks-v : goal.bounds-marks-v
 bounds-marks-v c = omega (arith, c.requires.2.few)
 
 pub power-rows-requires : goal.power-rows-requires
-power-rows-requires c =
-    let w = c.wide.ensures.0 in
-    (c.requires.0, pow_fits c.args.n c.wide.result c.requires.1 (omega (arith, w, (c.requires.2.nodes.node (node (goal.at.power-rows-requires c).In-nodes)).width)))
+power-rows-requires c = let w = c.wide.ensures.0 in (c.requires.0, pow_fits c.args.n c.wide.result c.requires.1 (omega (arith, w, (c.requires.2.nodes.node (node (goal.at.power-rows-requires c).In-nodes)).width)))
 
 pub node_width-requires : goal.node_width-requires
 node_width-requires c = (c.requires.1, rows-small c)

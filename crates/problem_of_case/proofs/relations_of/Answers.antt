@@ -62,8 +62,7 @@ loop-r-smaller c = omega arith
 
 pub loop-r-preserved : goal.loop-r-preserved
 loop-r-preserved c =
-    let k = c.loop-r in
-    let y = subst (SortAt _ k.r) (sym c.wide.ensures.0) c.sort_at.ensures in
+    let k = c.loop-r in let y = subst (SortAt _ k.r) (sym c.wide.ensures.0) c.sort_at.ensures in
     let z = subst (SortAt _ k.r) (sym c.wide-in-loop-r.ensures.0) c.sort_at-in-loop-r.ensures in (
       omega arith,
       k.invariant.1,
@@ -77,7 +76,4 @@ loop-r-preserved c =
 
 pub returns : goal.returns
 unfolding Filled
-returns c =
-    let k = c.loop-r in
-    let s = c.requires in
-    numbered c.args.g k.r k.arity k.kind k.firsts k.seconds s (omega arith) (k.invariant.6 c.args.g s refl refl refl refl refl)
+returns c = let k = c.loop-r in let s = c.requires in numbered c.args.g k.r k.arity k.kind k.firsts k.seconds s (omega arith) (k.invariant.6 c.args.g s refl refl refl refl refl)

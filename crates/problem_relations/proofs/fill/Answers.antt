@@ -25,8 +25,7 @@ fill-requires c =
 
 pub returns : goal.returns
 returns c =
-    let a = c.args in let f = c.fill.ensures.1 in
-    let b = c.bare_layout-b.ensures in (
+    let a = c.args in let f = c.fill.ensures.1 in let b = c.bare_layout-b.ensures in (
       f.fits,
       λ p t some i q. f.is (bare p)
           (subst (Inputs (bare p) a.n a.members.now a.types a.g) (sym c.no_nodes-t.ensures) (bare_inputs p a.n a.members.now a.types a.g t some i))

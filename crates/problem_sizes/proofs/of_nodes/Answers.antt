@@ -9,53 +9,53 @@ use Rattle.problem_layout.specs.LaidLaws.{choices_at_lem, acts_le, node_width_le
 use Rattle.problem_sizes.specs.Sums.{NodesSummed}
 use Rattle.problem_sizes.specs.SumLaws.{nodes_first, nodes_next, node_counts}
 use Rattle.problem_sizes.proofs.of_nodes.Goals as goal
+use Rattle.problem_sizes.proofs.of_nodes.Goals.{After-choices, After-node_width-atoms, After-power-rows, After-wide-in-loop-nodes, At-loop-nodes, In-loop-nodes}
 
 -- the row of the node where the loop stands
 abbrev row : tie.In-loop invariant-loop decreases-loop → NodeRow
 row c = get_or c.before.before.args.t3.rows c.before.loop.nodes no_node
 
 -- the counts so far
-counts-small : (c : goal.At-loop-nodes) → (c.loop-nodes.atoms ≤ 2 ^ 36) × (c.loop-nodes.actions ≤ 2 ^ 36)
+counts-small : (c : At-loop-nodes) → (c.loop-nodes.atoms ≤ 2 ^ 36) × (c.loop-nodes.actions ≤ 2 ^ 36)
 counts-small c = node_counts c.args.n c.requires.1 c.args.ranges.count c.args.t c.requires.3.count c.requires.2
     c.loop-nodes.nodes c.loop-nodes.nodes c.loop-nodes.atoms c.loop-nodes.actions c.loop-nodes.invariant.0 c.loop-nodes.invariant.1
 
 -- how many values its free variables have
-rows_are : (c : goal.After-power-rows) → c.power-rows.result ≡ c.args.n ^ (row «In-loop»).width
+rows_are : (c : After-power-rows) → c.power-rows.result ≡ c.args.n ^ (row c.TODO-In-loop-nodes).width
 rows_are c = c.power-rows.ensures ∙ ap (λ (k : ℕ). c.args.n ^ k) c.wide.ensures.0
 
-rows-small : (c : goal.After-power-rows) → c.power-rows.result ≤ 64 ^ 4
+rows-small : (c : After-power-rows) → c.power-rows.result ≤ 64 ^ 4
 rows-small c =
-    let v = c.loop-nodes.nodes in
-    size_most c.args.n (row «In-loop»).width c.power-rows.result (rows_are c) c.requires.1 (c.requires.2.nodes.node v).width
+    let v = c.loop-nodes.nodes in size_most c.args.n (row c.TODO-In-loop-nodes).width c.power-rows.result (rows_are c) c.requires.1 (c.requires.2.nodes.node v).width
 
 -- how many atoms it has
-row-width : (c : goal.After-node_width-atoms)
-    → c.node_width-atoms.result ≡ node_width c.args.n c.power-rows.result (row «In-loop»).kind
+row-width : (c : After-node_width-atoms)
+    → c.node_width-atoms.result ≡ node_width c.args.n c.power-rows.result (row c.TODO-In-loop-nodes).kind
 row-width c = c.node_width-atoms.ensures ∙ ap (node_width c.args.n c.power-rows.result) c.wide-kind.ensures.0
 
-width_small : (c : goal.After-node_width-atoms) → c.node_width-atoms.result ≤ 64 ^ 4 * 64
+width_small : (c : After-node_width-atoms) → c.node_width-atoms.result ≤ 64 ^ 4 * 64
 width_small c =
-    let w = node_width_le c.args.n c.power-rows.result (row «In-loop»).kind c.requires.1 (rows-small «After-power») in
+    let w = node_width_le c.args.n c.power-rows.result (row c.TODO-In-loop-nodes).kind c.requires.1 (rows-small c.TODO-After-power-rows) in
     omega (arith, row-width c)
 
 -- its sort is one of nine
-sort-small : (c : goal.After-wide-in-loop-nodes) → c.wide-in-loop-nodes.result < 9
+sort-small : (c : After-wide-in-loop-nodes) → c.wide-in-loop-nodes.result < 9
 sort-small c = omega (arith, c.wide-in-loop-nodes.ensures.0, (c.requires.2.nodes.node c.loop-nodes.nodes).sort)
 
 -- how many actions it has at each of these, and in all
-row-choices : (c : goal.After-choices) → c.choices.result
+row-choices : (c : After-choices) → c.choices.result
     ≡ choices_at c.args.ranges.count
     c.args.t
     c.loop-nodes.nodes
 row-choices c =
     c.choices.ensures ∙ choices_at_lem c.args.ranges.count c.wide-in-loop-nodes.ensures.0 c.wide-kind.ensures.0 c.wide-in-loop-nodes-2.ensures.0
 
-acts_small : (c : goal.After-choices) → c.power-rows.result * c.choices.result ≤ 64 ^ 4 * 64
+acts_small : (c : After-choices) → c.power-rows.result * c.choices.result ≤ 64 ^ 4 * 64
 acts_small c =
-    acts_le c.args.n c.args.ranges.count c.args.t 0 0 c.requires.1 c.requires.3.count c.requires.2 c.loop-nodes.nodes c.power-rows.result c.choices.result (rows_are («After-power»)) (row-choices c)
+    acts_le c.args.n c.args.ranges.count c.args.t 0 0 c.requires.1 c.requires.3.count c.requires.2 c.loop-nodes.nodes c.power-rows.result c.choices.result (rows_are (c.TODO-After-power-rows)) (row-choices c)
 
 -- one node more is still one of 64
-few : (c : goal.After-choices) → c.loop-nodes.nodes < 64
+few : (c : After-choices) → c.loop-nodes.nodes < 64
 few c = omega (arith, c.loop-nodes-test.true, c.requires.2.few)
 
 pub loop-nodes-init : goal.loop-nodes-init
@@ -68,9 +68,7 @@ pub bounds-t-nodes : goal.bounds-t-nodes
 bounds-t-nodes c = omega (arith, c.requires.2.few)
 
 pub power-rows-requires : goal.power-rows-requires
-power-rows-requires c =
-    let w = c.wide.ensures.0 in
-    (c.requires.0, pow_fits c.args.n c.wide.result c.requires.1 (omega (arith, w, (c.requires.2.nodes.node c.loop-nodes.nodes).width)))
+power-rows-requires c = let w = c.wide.ensures.0 in (c.requires.0, pow_fits c.args.n c.wide.result c.requires.1 (omega (arith, w, (c.requires.2.nodes.node c.loop-nodes.nodes).width)))
 
 pub node_width-atoms-requires : goal.node_width-atoms-requires
 node_width-atoms-requires c = (c.requires.1, rows-small c)

@@ -7,16 +7,16 @@ use Rattle.problem_layout.specs.LaidLaws.{pow_fits, size_most, width_le, set_wid
 use Rattle.problem_sizes.specs.Sums.{RelationsSummed}
 use Rattle.problem_sizes.specs.SumLaws.{relations_first, relations_next, relation_counts}
 use Rattle.problem_sizes.proofs.of_relations.Goals as goal
+use Rattle.problem_sizes.proofs.of_relations.Goals.{After-power-size, At-loop-i}
 
 -- the sums so far, and the size of the relation where the loop stands
-counts-small : (c : goal.At-loop-i) → (c.loop-i.atoms ≤ 2 ^ 30) × (c.loop-i.sets ≤ 2 ^ 29) × (c.loop-i.picks ≤ 2 ^ 29)
+counts-small : (c : At-loop-i) → (c.loop-i.atoms ≤ 2 ^ 30) × (c.loop-i.sets ≤ 2 ^ 29) × (c.loop-i.picks ≤ 2 ^ 29)
 counts-small c =
     relation_counts c.args.n c.requires.1 c.args.ranges.count c.args.g c.requires.3.count c.requires.2 c.loop-i.i c.loop-i.atoms c.loop-i.sets c.loop-i.picks c.loop-i.invariant.0 c.loop-i.invariant.1
 
-size_small : (c : goal.After-power-size) → c.power-size.result ≤ 64 ^ 4
+size_small : (c : After-power-size) → c.power-size.result ≤ 64 ^ 4
 size_small c =
-    let i = c.loop-i.i in
-    size_most c.args.n (get_or c.args.g.arity i 0) c.power-size.result c.power-size.ensures c.requires.1 (c.requires.2.arity i)
+    let i = c.loop-i.i in size_most c.args.n (get_or c.args.g.arity i 0) c.power-size.result c.power-size.ensures c.requires.1 (c.requires.2.arity i)
 
 pub loop-i-init : goal.loop-i-init
 loop-i-init c = (omega arith, relations_first c.args.n c.args.ranges.count c.args.g)
@@ -88,15 +88,14 @@ loop-i-smaller c = omega (arith, c.requires.2.count)
 
 pub loop-i-preserved : goal.loop-i-preserved
 loop-i-preserved c =
-    let s = c.args in
-    let k = c.loop-i in (
+    let s = c.args in let k = c.loop-i in (
       omega arith,
-      relations_next s.n s.t2.count s.t3 k.i k.atoms k.sets k.picks c.power-size.result
+      relations_next s.n s.ranges.count s.g k.i k.atoms k.sets k.picks c.power-size.result
           c.relation_width-atoms.result c.set_width-sets.result c.most_width-picks.result
           c.power-size.ensures c.relation_width-atoms.ensures c.set_width-sets.ensures c.most_width-picks.ensures k.invariant.1,
     )
 
 pub returns : goal.returns
 returns c =
-    let s = c.args in let k = c.loop-i in let e : k.i ≡ s.t3.count = omega arith in
-    subst (λ (x : ℕ). RelationsSummed s.n s.t2.count s.t3 x k.atoms k.sets k.picks) e k.invariant.1
+    let s = c.args in let k = c.loop-i in let e : k.i ≡ s.g.count = omega arith in
+    subst (λ (x : ℕ). RelationsSummed s.n s.ranges.count s.g x k.atoms k.sets k.picks) e k.invariant.1

@@ -3,10 +3,10 @@ use Prim.Native.Nat.{◌≤◌, ◌^◌}
 use native.Mathlib.Omega.{arith}
 use Rattle.problem_sizes.specs.SumLaws.{relation_counts, node_counts, size_small, tallied}
 use Rattle.problem_sizes.proofs.of_tables.Goals as goal
+use Rattle.problem_sizes.proofs.of_tables.Goals.{After-every_tuples-tuples}
 
 -- the sums that are added
-sums : (c : goal.After-every_tuples-tuples) → let b = c.of_relations-b.result in let w = c.of_nodes-w.result in
-    (b.atoms ≤ 2 ^ 30) × (b.sets ≤ 2 ^ 29) × (b.picks ≤ 2 ^ 29) × (w.atoms ≤ 2 ^ 36) × (w.actions ≤ 2 ^ 36) × (c.every_tuples-tuples.result ≤ 64 ^ 4)
+sums : (c : After-every_tuples-tuples) → let b = c.of_relations-b.result in let w = c.of_nodes-w.result in (b.atoms ≤ 2 ^ 30) × (b.sets ≤ 2 ^ 29) × (b.picks ≤ 2 ^ 29) × (w.atoms ≤ 2 ^ 36) × (w.actions ≤ 2 ^ 36) × (c.every_tuples-tuples.result ≤ 64 ^ 4)
 sums c =
     let b = relation_counts c.args.n c.requires.1 c.args.ranges.count c.args.g c.requires.4.count c.requires.2 c.args.g.count _ _ _ (omega arith) c.of_relations-b.ensures in
     let w = node_counts c.args.n c.requires.1 c.args.ranges.count c.args.t c.requires.4.count c.requires.3 c.args.t.count _ _ _ (omega arith) c.of_nodes-w.ensures in

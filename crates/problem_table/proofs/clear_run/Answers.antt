@@ -24,7 +24,7 @@ loop-k-preserved c =
   omega (arith, c.least-c.ensures),
   λ h. omega
       (arith, c.least-c.ensures),
-  c.store.auto.0
+  c.store.auto.words
       ∙ c.loop-k.invariant.2,
   run_on _ _ _ _ _ _ _ digit_of_zero
       c.loop-k.invariant.0 c.loop-k.invariant.3

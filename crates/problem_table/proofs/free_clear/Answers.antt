@@ -1,7 +1,7 @@
 -- `problem_table::free_clear` meets its contract.
 use Prim.Native.Nat.{◌+◌, ◌%◌}
 use mathlib.Core.Path.{ap, ◌∙◌}
-use mathlib.Core.List.{◌∷◌}
+use mathlib.Core.List.{[], ◌∷◌}
 use native.Mathlib.Nat.{div-le_self, mod-lt}
 use native.Mathlib.Omega.{arith}
 use Rattle.problem_table.specs.Numbers.{changed}

@@ -5,9 +5,10 @@ use native.Mathlib.Omega.{arith}
 use Rattle.rows.specs.Laws.{times_most}
 use Rattle.problem_table.specs.NeedLaws.{forall_no, forall_not, forall_first, forall_next}
 use Rattle.problem_table.proofs.may_forall.Goals as goal
+use Rattle.problem_table.proofs.may_forall.Goals.{Start}
 
 -- the atom of the row and of an element
-times : (c : goal.Start) → c.args.row * c.args.n ≤ 2 ^ 32 * 64
+times : (c : Start) → c.args.row * c.args.n ≤ 2 ^ 32 * 64
 times c = times_most _ _ c.requires.7 c.requires.1
 
 pub element_before-y-requires : goal.element_before-y-requires

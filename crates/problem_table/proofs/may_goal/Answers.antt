@@ -1,5 +1,5 @@
 -- `problem_table::may_goal` meets its contract.
-use mathlib.Core.List.{◌∷◌}
+use mathlib.Core.List.{[], ◌∷◌}
 use native.Mathlib.Omega.{arith}
 use Rattle.rows.specs.Laws.{within_zeros}
 use Rattle.problem_table.specs.NeedLaws.{goal_all, within_most}

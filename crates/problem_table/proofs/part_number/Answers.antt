@@ -4,8 +4,9 @@ use native.Mathlib.Omega.{arith}
 use lib.ListN.{get_or}
 use Rattle.problem_table.specs.NeedLaws.{value_times, number_is}
 use Rattle.problem_table.proofs.part_number.Goals as goal
+use Rattle.problem_table.proofs.part_number.Goals.{Start}
 
-small : (c : goal.Start) (l : ℕ) → get_or c.args.env l 0 * get_or c.args.q.weights l 0 ≤ 64 * 2 ^ 32
+small : (c : Start) (l : ℕ) → get_or c.args.env l 0 * get_or c.args.q.weights l 0 ≤ 64 * 2 ^ 32
 small c l = value_times (get_or c.args.env l 0) (get_or c.args.q.weights l 0) (c.requires.2 l) (c.requires.1 l)
 
 pub overflow_mul-result : goal.overflow_mul-result

@@ -8,9 +8,10 @@ use Rattle.problem_table.specs.Lines.{table_length, size_in}
 use Rattle.problem_table.specs.Numbers.{is_whole}
 use Rattle.problem_table.specs.NeedLaws.{row_whole, row_pair, pair_inside, pair_small, pair_le}
 use Rattle.problem_table.proofs.set_row.Goals as goal
+use Rattle.problem_table.proofs.set_row.Goals.{Else-is_whole}
 
 -- past the test the two places of the offset are members of their ranges
-module _ (c : goal.Else-is_whole) where
+module _ (c : Else-is_whole) where
   typed : is_whole c.args.line ≡ false
   typed = sym c.is_whole.ensures ∙ c.if-is_whole.false
 

@@ -8,18 +8,19 @@ use Rattle.rule_nodes.specs.Bounds.{which_small}
 use Rattle.problem_window.specs.FoldLaws.{greatest_none, least_none, greatest_next, least_next, greatest_most, least_most, numbers_first}
 use Rattle.problem_window.specs.FoldLaws.{lows_next, highs_next, lows_small, highs_small, windowed}
 use Rattle.problem_window.proofs.of_tables.Goals as goal
+use Rattle.problem_window.proofs.of_tables.Goals.{At-nodes, In-nodes}
 
 -- the node that is looked at
 abbrev node : tie.In-nodes invariant-parts decreases-parts invariant-nodes decreases-nodes → ℕ
 node c = c.before.before.args.t3.count - (c.before.nodes.done + 1)
 
 -- no number that is known is large
-lows-there : (c : goal.At-nodes) (i : ℕ) → get_or c.nodes.lows i 0 ≤ 4096
+lows-there : (c : At-nodes) (i : ℕ) → get_or c.nodes.lows i 0 ≤ 4096
 lows-there c =
     lows_small c.args.t c.args.ranges.count c.requires.1.count c.requires.0.few c.nodes.done c.nodes.invariant.0
     c.nodes.lows c.nodes.invariant.1
 
-highs-there : (c : goal.At-nodes) (i : ℕ) → get_or c.nodes.highs i 0 ≤ 4096
+highs-there : (c : At-nodes) (i : ℕ) → get_or c.nodes.highs i 0 ≤ 4096
 highs-there c =
     highs_small c.args.t c.args.ranges.count c.requires.1.count c.requires.0.few c.nodes.done c.nodes.invariant.0
     c.nodes.highs c.nodes.invariant.2
@@ -36,7 +37,7 @@ bounds-t-first c =
   arith,
   c.wide-first.ensures.0,
   c.wide-many.ensures.0,
-  c.requires.0.few-parts,
+  c.requires.0.few_parts,
   (c.requires.0.nodes.node (node (goal.at.bounds-t-first c).In-nodes)).parts,
 )
 
@@ -102,8 +103,7 @@ nodes-preserved c =
     let e : c.parts.k ≡ c.wide-many.result =
     omega (arith, c.parts.invariant.0) in
     let few : c.nodes.done + 1 ≤ c.args.t.count = omega arith in
-    let counts = c.args.ranges.count in
-    let sort : get_or c.args.ranges.count c.wide-sort.result 0 ≡ _ =
+    let counts = c.args.ranges.count in let sort : get_or c.args.ranges.count c.wide-sort.result 0 ≡ _ =
     ap (λ (x : ℕ). get_or c.args.ranges.count x 0) c.wide-sort.ensures.0 in
     let least = subst (λ (k : ℕ). c.parts.least ≡ least_in c.args.t.parts c.nodes.lows c.wide-first.result k) e c.parts.invariant.1 in
     let low = subst (λ (k : ℕ). c.parts.low ≡ greatest_in c.args.t.parts c.nodes.lows c.wide-first.result k) e c.parts.invariant.2 in

@@ -6,7 +6,7 @@ use Rattle.read_plan.proofs.action.Goals as goal
 
 pub set_step-requires : goal.set_step-requires
 unfolding NameFits
-set_step-requires c = ((c.requires.fits.0, subst NameFits c.in-Set.is c.requires.fits.1, c.requires.fits.2, c.requires.fits.3), c.requires.by_index)
+set_step-requires c = record { fits = (c.requires.fits.0, subst NameFits c.in-Set.is c.requires.fits.1, c.requires.fits.2, c.requires.fits.3); by_index = c.requires.by_index }
 
 pub and_step-requires : goal.and_step-requires
 unfolding NameFits
@@ -26,7 +26,7 @@ next_step-requires c = (c.requires.fits.0, subst NameFits c.in-Next.is c.require
 
 pub or_step-requires : goal.or_step-requires
 unfolding NameFits
-or_step-requires c = ((c.requires.fits.0, (subst NameFits c.in-Or.is c.requires.fits.1).0, c.requires.fits.2, c.requires.fits.3), (subst NameFits c.in-Or.is c.requires.fits.1).1)
+or_step-requires c = record { fits = (c.requires.fits.0, (subst NameFits c.in-Or.is c.requires.fits.1).0, c.requires.fits.2, c.requires.fits.3); i_bound = (subst NameFits c.in-Or.is c.requires.fits.1).1 }
 
 pub returns-in-Set : goal.returns-in-Set
 unfolding number_by

@@ -15,7 +15,7 @@ pub returns-then-small-eq115 : goal.returns-then-small-eq115
 returns-then-small-eq115 c = λ case A is given. name_set case A c.args.question.now c.args.names.now c.args.table.now is given _ (word_first c.args.s.now c.args.a c.args.e _ (omega arith) c.small.ensures ∙ c.if-small-eq115.true) _ (c.set_name.ensures case A is given)
 
 pub is_said-requires : goal.is_said-requires
-is_said-requires c = ((c.requires.fits.1, named_small _ _ (sym c.is_named.ensures ∙ c.if-is_named.true)), (c.requires.a_le_e.0, c.requires.a_le_e.1))
+is_said-requires c = record { names = (c.requires.fits.1, named_small _ _ (sym c.is_named.ensures ∙ c.if-is_named.true)); a_le_e = (c.requires.a_le_e.0, c.requires.a_le_e.1) }
 
 pub returns-then-is_said : goal.returns-then-is_said
 returns-then-is_said c =

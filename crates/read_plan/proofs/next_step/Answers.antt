@@ -27,7 +27,7 @@ pub returns-then-z-values : goal.returns-then-z-values
 returns-then-z-values c = (ap₂ told c.no_step.ensures.0 c.no_step.ensures.1 ∙ next_none _ _ _ _ _ _ c.node_line-width.ensures refl c.if-z-values.true, omega (arith, c.no_step.ensures.1))
 
 pub node_step-requires : goal.node_step-requires
-node_step-requires c = (c.requires, (c.requires.0.size, omega (arith, c.requires.3 (c.node_line-width.result.width + 1), c.requires.0.size), omega arith))
+node_step-requires c = record { fits = c.requires; each_bound = (c.requires.0.size, omega (arith, c.requires.3 (c.node_line-width.result.width + 1), c.requires.0.size), omega arith) }
 
 pub returns : goal.returns
 returns c = (next_number_lem _ _ _ _ _ _ c.node_line-width.ensures refl _ c.if-z-values.false c.node_step.ensures.0, c.node_step.ensures.1)

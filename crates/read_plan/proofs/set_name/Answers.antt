@@ -13,7 +13,7 @@ pub loop-r-init : goal.loop-r-init
 loop-r-init c = (omega arith, refl, none_first _ _ _ _)
 
 pub is_set-requires : goal.is_set-requires
-is_set-requires c = ((c.requires.fits.0, c.requires.fits.1, omega (arith, c.loop-r.invariant.1, c.requires.fits.0.relations)), c.requires.a_le_e)
+is_set-requires c = record { fits = (c.requires.fits.0, c.requires.fits.1, omega (arith, c.loop-r.invariant.1, c.requires.fits.0.relations)); a_le_e = c.requires.a_le_e }
 
 pub returns-then-is_set : goal.returns-then-is_set
 returns-then-is_set c = set_here _ _ _ _ c.loop-r.r (omega (arith, c.loop-r.invariant.1)) (subst (λ (x : Bool). IsSet c.args.question.now c.args.names.now c.args.table.now (slice c.args.a c.args.e c.args.s.now) c.loop-r.r x) c.if-is_set.true c.is_set.ensures)

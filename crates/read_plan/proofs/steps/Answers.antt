@@ -20,7 +20,7 @@ pub overflow_sub-e : goal.overflow_sub-e
 overflow_sub-e c = omega (arith, (line_whole _ _ _ c.args.s.now _ c.loop-at.at c.loop-at.count _ c.loop-at.invariant.5 c.find-e.result (omega arith) c.find-e.ensures c.requires.posed.0 c.requires.posed.1 c.requires.s_value.0 c.requires.s_value.1).1)
 
 pub line_step-k-requires : goal.line_step-k-requires
-line_step-k-requires c = (c.requires.posed, (omega (arith, (line_whole _ _ _ c.args.s.now _ c.loop-at.at c.loop-at.count _ c.loop-at.invariant.5 c.find-e.result (omega arith) c.find-e.ensures c.requires.posed.0 c.requires.posed.1 c.requires.s_value.0 c.requires.s_value.1).1), omega (arith, (line_whole _ _ _ c.args.s.now _ c.loop-at.at c.loop-at.count _ c.loop-at.invariant.5 c.find-e.result (omega arith) c.find-e.ensures c.requires.posed.0 c.requires.posed.1 c.requires.s_value.0 c.requires.s_value.1).0), omega (arith, (line_whole _ _ _ c.args.s.now _ c.loop-at.at c.loop-at.count _ c.loop-at.invariant.5 c.find-e.result (omega arith) c.find-e.ensures c.requires.posed.0 c.requires.posed.1 c.requires.s_value.0 c.requires.s_value.1).0, c.loop-at.invariant.3)))
+line_step-k-requires c = record { posed = c.requires.posed; a_le_e = (omega (arith, (line_whole _ _ _ c.args.s.now _ c.loop-at.at c.loop-at.count _ c.loop-at.invariant.5 c.find-e.result (omega arith) c.find-e.ensures c.requires.posed.0 c.requires.posed.1 c.requires.s_value.0 c.requires.s_value.1).1), omega (arith, (line_whole _ _ _ c.args.s.now _ c.loop-at.at c.loop-at.count _ c.loop-at.invariant.5 c.find-e.result (omega arith) c.find-e.ensures c.requires.posed.0 c.requires.posed.1 c.requires.s_value.0 c.requires.s_value.1).0), omega (arith, (line_whole _ _ _ c.args.s.now _ c.loop-at.at c.loop-at.count _ c.loop-at.invariant.5 c.find-e.result (omega arith) c.find-e.ensures c.requires.posed.0 c.requires.posed.1 c.requires.s_value.0 c.requires.s_value.1).0, c.loop-at.invariant.3)) }
 
 pub overflow_cast-k : goal.overflow_cast-k
 overflow_cast-k c = omega (arith, c.line_step-k.ensures.1)

@@ -11,7 +11,7 @@ pub returns-then-v-eq0 : goal.returns-then-v-eq0
 returns-then-v-eq0 c = choose_untyped _ _ _ _ _ _ (sym c.if-c-ne0.false ∙ c.new_name-c.ensures) c.if-v-eq0.true
 
 pub sorts_of-p-requires : goal.sorts_of-p-requires
-sorts_of-p-requires c = (c.requires.0.types-le, c.requires.3)
+sorts_of-p-requires c = (c.requires.0.types_le, c.requires.3)
 
 pub returns-then-p-eq0 : goal.returns-then-p-eq0
 returns-then-p-eq0 c = choose_first _ _ _ _ _ _ (sym c.if-c-ne0.false ∙ c.new_name-c.ensures) (omega arith) _ c.sorts_of-p.ensures c.if-p-eq0.true

@@ -17,7 +17,7 @@ returns-then-late-2 c = type_late _ _ _ _ _ c.in-Typed.is (sym c.late-in-Typed.e
 
 pub type_fault-requires : goal.type_fault-requires
 unfolding InText
-type_fault-requires c = let w = subst (InText _ _) c.in-Typed.is c.requires.1 in (c.requires.0.types-le, w.0, w.1)
+type_fault-requires c = let w = subst (InText _ _) c.in-Typed.is c.requires.1 in (c.requires.0.types_le, w.0, w.1)
 
 pub returns-then-closed : goal.returns-then-closed
 returns-then-closed c = choose_closed _ _ _ _ _ _ _ _ _ _ c.in-Choose.is (sym c.closed.ensures ∙ c.if-closed.true)

@@ -22,6 +22,4 @@ returns-then-next-s c =
     c.after_rule-c.ensures)
 
 pub returns : goal.returns
-returns c =
-    let h = c.question_head-h.ensures in
-    end_accepted _ _ h c.if-fault-ne0.false _ (c.number_of-verdict.ensures ∙ c.rule_verdict-v.ensures) c.if-verdict-ne0.false (omega (arith, next_in _ _ h c.if-fault-ne0.false))
+returns c = let h = c.question_head-h.ensures in end_accepted _ _ h c.if-fault-ne0.false _ (c.number_of-verdict.ensures ∙ c.rule_verdict-v.ensures) c.if-verdict-ne0.false (omega (arith, next_in _ _ h c.if-fault-ne0.false))

@@ -29,9 +29,7 @@ pub loop-at-smaller : goal.loop-at-smaller
 loop-at-smaller c = let l = c.line-l in omega (arith, l.ensures.0, l.ensures.1)
 
 pub loop-at-preserved : goal.loop-at-preserved
-loop-at-preserved c =
-    let l = c.line-l in let h = c.loop-at.invariant.1 in
-    (l.ensures.1, rw c.grow-g.ensures (head_next _ _ _ h _ _ l.ensures _ c.judge-c.ensures (omega arith)))
+loop-at-preserved c = let l = c.line-l in let h = c.loop-at.invariant.1 in (l.ensures.1, rw c.grow-g.ensures (head_next _ _ _ h _ _ l.ensures _ c.judge-c.ensures (omega arith)))
 
 pub returns : goal.returns
 returns c = subst (Headed _) (sym c.stopped-2.ensures) (head_missing _ _ _ c.loop-at.invariant.1 (omega arith) _ _)

@@ -13,4 +13,4 @@ pub slice_bounds-result-end : goal.slice_bounds-result-end
 slice_bounds-result-end c = (part_in _ _ c.question-q.ensures).1
 
 pub returns : goal.returns
-returns c = (part_is _ _ c.question-q.ensures, part_start _ _ c.question-q.ensures)
+returns c = record { part = part_is _ _ c.question-q.ensures; place = part_start _ _ c.question-q.ensures }

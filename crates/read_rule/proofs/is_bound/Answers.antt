@@ -7,7 +7,7 @@ use Rattle.read_rule.specs.Spans.{names_are, bound_yes, bound_no, bound_end}
 use Rattle.read_rule.proofs.is_bound.Goals as goal
 
 pub loop-i-init : goal.loop-i-init
-loop-i-init c = let a = c.args in (omega arith, ap (λ l. is_bound l (slice a.a a.e a.s.now)) (names_are a.s.now a.t4))
+loop-i-init c = let a = c.args in (omega arith, ap (λ l. is_bound l (slice a.a a.e a.s.now)) (names_are a.s.now a.sc))
 
 pub offset_bounds-sc-i : goal.offset_bounds-sc-i
 offset_bounds-sc-i c = omega arith

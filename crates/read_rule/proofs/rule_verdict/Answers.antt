@@ -16,14 +16,12 @@ judge-requires c =
 
 pub returns-in-Bad : goal.returns-in-Bad
 returns-in-Bad c =
-    let a = c.args in
-    verdict_bad _ _ (chosen_of a.text.now a.sig) _ a.text.now a.at a.end c.requires.0 c.requires.1
+    let a = c.args in verdict_bad _ _ (chosen_of a.text.now a.sig) _ a.text.now a.at a.end c.requires.0 c.requires.1
     (sym c.in-Bad.is ∙ c.scan-f.ensures ∙ seen_lent _ a.sig _ refl c.requires.3 c.requires.4 c.requires.5 _ _ _ _)
 
 pub returns-then-next-end : goal.returns-then-next-end
 returns-then-next-end c =
-    let a = c.args in
-    let lent = seen_lent _ a.sig _ refl c.requires.3 c.requires.4 c.requires.5 _ _ _ _ in
+    let a = c.args in let lent = seen_lent _ a.sig _ refl c.requires.3 c.requires.4 c.requires.5 _ _ _ _ in
     let f = found _ _ _ a.text.now _ {at = a.at} (omega (arith, c.requires.0, c.requires.1)) c.in-Ok.is (c.scan-f.ensures
     ∙ lent) in
     c.judge.ensures ∙ verdict_ok _ _ _ _ _ _ a.end c.requires.0 c.requires.1 _ _ f _ (names_none _ _ _) c.if-next-end.true
@@ -31,8 +29,7 @@ returns-then-next-end c =
 
 pub returns-else-next-end : goal.returns-else-next-end
 returns-else-next-end c =
-    let a = c.args in
-    let lent = seen_lent _ a.sig _ refl c.requires.3 c.requires.4 c.requires.5 _ _ _ _ in
+    let a = c.args in let lent = seen_lent _ a.sig _ refl c.requires.3 c.requires.4 c.requires.5 _ _ _ _ in
     let f = found _ _ _ a.text.now _ {at = a.at} (omega (arith, c.requires.0, c.requires.1)) c.in-Ok.is (c.scan-f.ensures
     ∙ lent) in
     verdict_other _ _ (chosen_of a.text.now a.sig) _ _ _ a.end c.requires.0 c.requires.1 _ _ f c.if-next-end.false

@@ -2,7 +2,6 @@ use Prim.Native.Nat.{◌-◌}
 use mathlib.Core.Path.{refl, sym, ◌∙◌}
 use native.Mathlib.Omega.{arith}
 use borrow.Author.Rules.{rules}
-use borrow.Author.Tests.{not-true, not-false}
 use Rattle.read_rule.specs.Steps.{run_in, run_out, run_end}
 use Rattle.read_rule.proofs.run.Goals as goal
 
@@ -13,7 +12,7 @@ pub bounds-s-i : goal.bounds-s-i
 bounds-s-i c = omega arith
 
 pub returns-then-not-is_inside : goal.returns-then-not-is_inside
-returns-then-not-is_inside c = sym (c.loop-i.invariant.1 ∙ run_out _ c.args.s.now c.loop-i.i (omega arith) (sym c.is_inside.ensures ∙ not-true _ c.if-not-is_inside.true))
+returns-then-not-is_inside c = sym (c.loop-i.invariant.1 ∙ run_out _ c.args.s.now c.loop-i.i (omega arith) (sym c.is_inside.ensures ∙ c.if-not-is_inside.true))
 
 pub overflow_add-i : goal.overflow_add-i
 overflow_add-i c = omega arith
@@ -22,7 +21,7 @@ pub loop-i-smaller : goal.loop-i-smaller
 loop-i-smaller c = omega arith
 
 pub loop-i-preserved : goal.loop-i-preserved
-loop-i-preserved c = let step = run_in _ c.args.s.now c.loop-i.i (omega arith) (sym c.is_inside.ensures ∙ not-false _ c.if-not-is_inside.false) in (omega arith, c.loop-i.invariant.1 ∙ step)
+loop-i-preserved c = let step = run_in _ c.args.s.now c.loop-i.i (omega arith) (sym c.is_inside.ensures ∙ c.if-not-is_inside.false) in (omega arith, c.loop-i.invariant.1 ∙ step)
 
 pub returns : goal.returns
 returns c = sym (c.loop-i.invariant.1 ∙ run_end _ c.args.s.now c.loop-i.i (omega arith))

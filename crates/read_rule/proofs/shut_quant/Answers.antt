@@ -7,8 +7,7 @@ use Rattle.read_rule.proofs.shut_quant.Goals as goal
 
 pub returns : goal.returns
 returns c =
-    let a = c.args in
-    c.shut.ensures ∙ ap (λ x. shut_of a.s.now a.at x) (facts_eq _ _ _ _ _ _ _ _ _ _ refl
+    let a = c.args in c.shut.ensures ∙ ap (λ x. shut_of a.s.now a.at x) (facts_eq _ _ _ _ _ _ _ _ _ _ refl
     c.and-fits.ensures refl
     (c.and-scoped.ensures ∙ ap (λ b. b && a.f.scoped) c.and-new.ensures)
     c.and-typed.ensures)

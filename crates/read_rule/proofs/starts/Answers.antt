@@ -18,9 +18,7 @@ pub bounds-s-j : goal.bounds-s-j
 bounds-s-j c = omega arith
 
 pub returns-then-p-i : goal.returns-then-p-i
-returns-then-p-i c =
-    let a = c.args in
-    sym (c.loop-i.invariant.2 ∙ begins_other a.p.now a.s.now c.loop-i.i c.loop-i.j (omega arith) (omega arith) c.if-p-i.true)
+returns-then-p-i c = let a = c.args in sym (c.loop-i.invariant.2 ∙ begins_other a.p.now a.s.now c.loop-i.i c.loop-i.j (omega arith) (omega arith) c.if-p-i.true)
 
 pub overflow_add-i : goal.overflow_add-i
 overflow_add-i c = omega arith
@@ -33,8 +31,7 @@ loop-i-smaller c = omega arith
 
 pub loop-i-preserved : goal.loop-i-preserved
 loop-i-preserved c =
-    let a = c.args in
-    let step = begins_step a.p.now a.s.now c.loop-i.i c.loop-i.j (omega arith) (omega arith) c.if-p-i.false in
+    let a = c.args in let step = begins_step a.p.now a.s.now c.loop-i.i c.loop-i.j (omega arith) (omega arith) c.if-p-i.false in
     (omega arith, omega arith, c.loop-i.invariant.2 ∙ rw (add-one c.loop-i.i, add-one c.loop-i.j) step)
 
 pub returns : goal.returns

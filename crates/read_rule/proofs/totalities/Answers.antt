@@ -26,10 +26,8 @@ loop-i-smaller c = omega arith
 
 pub loop-i-preserved : goal.loop-i-preserved
 loop-i-preserved c =
-    let a = c.args in let l = c.loop-i in let le = total_le (get_or a.t1.kind l.i 0) in
-    (omega arith, omega arith, omega (arith, c.total-one.ensures), λ q. omega (arith, l.invariant.3 q, c.total-one.ensures, totals_next q a.t1 (a.t1.rels + a.t1.chosen) l.i (omega arith)))
+    let a = c.args in let l = c.loop-i in let le = total_le (get_or a.sig.kind l.i 0) in
+    (omega arith, omega arith, omega (arith, c.total-one.ensures), λ q. omega (arith, l.invariant.3 q, c.total-one.ensures, totals_next q a.sig (a.sig.rels + a.sig.chosen) l.i (omega arith)))
 
 pub returns : goal.returns
-returns c =
-    let l = c.loop-i in
-    (λ q. omega (arith, l.invariant.3 q, totals_end q c.args.sig (c.args.sig.rels + c.args.sig.chosen) l.i (omega arith)), omega arith)
+returns c = let l = c.loop-i in (λ q. omega (arith, l.invariant.3 q, totals_end q c.args.sig (c.args.sig.rels + c.args.sig.chosen) l.i (omega arith)), omega arith)

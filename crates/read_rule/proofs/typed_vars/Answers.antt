@@ -1,4 +1,3 @@
--- `typed_vars` meets its contract.
 use Prim.Native.Nat.{◌≤◌, ◌+◌}
 use mathlib.Core.Path.{◌≡◌, sym, ◌∙◌}
 use mathlib.Core.Bool.{true}
@@ -12,7 +11,7 @@ use Rattle.read_rule.specs.Turns.{after, turn_first, turn_bad, turn_last}
 use Rattle.read_rule.specs.Steps.{Hit, hit, room, fit_typed, more_together, each_stop_at, each_full, each_bad, each_turn}
 use Rattle.read_rule.proofs.Rounds.{turn}
 use Rattle.read_rule.proofs.typed_vars.Goals as goal
-use Rattle.read_rule.proofs.typed_vars.Goals.{In-Ok-2, In-loop-said}
+use Rattle.read_rule.proofs.typed_vars.Goals.{In-Ok, In-loop-said}
 
 -- a space is there
 module _ (c : In-loop-said) where
@@ -23,8 +22,7 @@ module _ (c : In-loop-said) where
   inside = room (32 ∷ []) c.args.s.now _ c.loop-said.invariant.0 space
 
 -- what is found after it
-one : (c : In-Ok-2) → let a = c.args in
-    let i = c.loop-said.i + 1 in
+one : (c : In-Ok) → let a = c.args in let i = c.loop-said.i + 1 in
     Hit (typed_facts (types_in a.s.now a.from.now a.to.now 8)) a.s.now i (read_typed (drop i a.s.now)) c.in-Ok.next
     c.in-Ok.q
 one c = hit _ _ _ _ _ _ (fit_typed _ _) (inside c.TODO-In-loop-said) (sym c.in-Ok.is ∙ c.typed_at-v.ensures)
@@ -50,7 +48,7 @@ returns-in-Bad c =
     (sym c.in-Bad.is ∙ c.typed_at-v.ensures))
 
 pub both-said-requires : goal.both-said-requires
-both-said-requires c = let v = one (goal.at.both-said-requires c).In-Ok-2 in omega (arith, v.small, v.within, c.well_formed.0.0)
+both-said-requires c = let v = one (goal.at.both-said-requires c).In-Ok in omega (arith, v.small, v.within, c.well_formed.0.0)
 
 pub overflow_sub-more : goal.overflow_sub-more
 overflow_sub-more c = omega (arith, c.if-more-eq0.false)
@@ -60,7 +58,7 @@ loop-said-smaller c = omega (arith, c.if-more-eq0.false)
 
 pub loop-said-preserved : goal.loop-said-preserved
 loop-said-preserved c =
-    let v = one (goal.at.loop-said-preserved c).In-Ok-2 in
+    let v = one (goal.at.loop-said-preserved c).In-Ok in
     turn _ _ v c.both-said.ensures c.loop-said.invariant.1 c.loop-said.invariant.2
     (each_turn _ _ _ (more_together _) _ c.loop-said.i _ _ _ v c.if-more-eq0.false (space (goal.at.loop-said-preserved c).In-loop-said))
 

@@ -1,4 +1,3 @@
--- `vars` meets its contract.
 use Prim.Native.Nat.{◌≤◌, ◌+◌}
 use mathlib.Core.Path.{◌≡◌, sym, ◌∙◌}
 use mathlib.Core.Bool.{true}
@@ -11,7 +10,7 @@ use Rattle.read_rule.specs.Turns.{after, turn_first, turn_bad, turn_last}
 use Rattle.read_rule.specs.Steps.{Hit, hit, room, fit_var, vars_together, each_stop_at, each_full, each_bad, each_turn}
 use Rattle.read_rule.proofs.Rounds.{turn}
 use Rattle.read_rule.proofs.vars.Goals as goal
-use Rattle.read_rule.proofs.vars.Goals.{In-Ok-2, In-loop-sc}
+use Rattle.read_rule.proofs.vars.Goals.{In-Ok, In-loop-sc}
 
 -- a space is there
 module _ (c : In-loop-sc) where
@@ -22,8 +21,7 @@ module _ (c : In-loop-sc) where
   inside = room (32 ∷ []) c.args.s.now _ c.loop-sc.invariant.0 space
 
 -- what is found after it
-one : (c : In-Ok-2) → let a = c.args in
-    let i = c.loop-sc.i + 1 in
+one : (c : In-Ok) → let a = c.args in let i = c.loop-sc.i + 1 in
     Hit (var_facts (names a.s.now a.sc)) a.s.now i (read_var (drop i a.s.now)) c.in-Ok.next c.in-Ok.f
 one c = hit _ _ _ _ _ _ (fit_var _ _) (inside c.TODO-In-loop-sc) (sym c.in-Ok.is ∙ c.var_at-v.ensures)
 
@@ -48,7 +46,7 @@ returns-in-Bad c =
     (sym c.in-Bad.is ∙ c.var_at-v.ensures))
 
 pub both-said-requires : goal.both-said-requires
-both-said-requires c = let v = one (goal.at.both-said-requires c).In-Ok-2 in omega (arith, v.small, v.within, c.well_formed.0.0)
+both-said-requires c = let v = one (goal.at.both-said-requires c).In-Ok in omega (arith, v.small, v.within, c.well_formed.0.0)
 
 pub overflow_sub-more : goal.overflow_sub-more
 overflow_sub-more c = omega (arith, c.if-more-eq0.false)
@@ -58,7 +56,7 @@ loop-sc-smaller c = omega (arith, c.if-more-eq0.false)
 
 pub loop-sc-preserved : goal.loop-sc-preserved
 loop-sc-preserved c =
-    let v = one (goal.at.loop-sc-preserved c).In-Ok-2 in
+    let v = one (goal.at.loop-sc-preserved c).In-Ok in
     turn _ _ v c.both-said.ensures c.loop-sc.invariant.1 c.loop-sc.invariant.2
     (each_turn _ _ _ (vars_together _) _ c.loop-sc.i _ _ _ v c.if-more-eq0.false (space (goal.at.loop-sc-preserved c).In-loop-sc))
 

@@ -35,8 +35,7 @@ loop-at-smaller c = omega (arith, c.line-l.ensures)
 
 pub loop-at-preserved : goal.loop-at-preserved
 loop-at-preserved c =
-    let line = c.line-l.ensures in
-    (
+    let line = c.line-l.ensures in (
       line.1,
       omega (arith, line.0),
       search rules,

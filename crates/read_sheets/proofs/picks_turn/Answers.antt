@@ -7,10 +7,9 @@ use Rattle.read_sheets.proofs.picks_turn.Goals as goal
 
 pub add-requires : goal.add-requires
 add-requires c =
-    let known = c.requires in
-    let pick = in_pick _ _ _ known.1.1.1 _ _ _ _ c.in-Pick.is in
+    let known = c.requires in let pick = in_pick _ _ _ known.by_index.1.1 _ _ _ _ c.in-Pick.is in
     let f : length c.args.from.now ≡ 21 = search rules in let t : length c.args.to.now ≡ 21 = search rules in
-    let d : length c.args.arity.now ≡ 13 = search rules in ((arrays_of _ _ _ _ _ known.0.0 f t d, known.0.1, known.0.2), (pick, known.1.0))
+    let d : length c.args.arity.now ≡ 13 = search rules in record { arrays = (arrays_of _ _ _ _ _ known.few_arities.0 f t d, known.few_arities.1, known.few_arities.2); fielded = (pick, known.by_index.0) }
 
 pub returns-in-Wrong : goal.returns-in-Wrong
 returns-in-Wrong c = search (rules, picks_wrong)

@@ -13,8 +13,7 @@ returns-then-fault-ne0 c = λ L e. question_refused _ _ _ _ _ _ c.question-q.ens
 pub site-s-requires : goal.site-s-requires
 site-s-requires c =
     let sound = known_sound _ _ c.question-q.ensures c.if-fault-ne0.false in
-    let room = c.requires.1 in
-    (sound, search rules, λ k next r h. facts_room _ _ sound k _ (room k next r h), search rules, no_member_words, search rules)
+    let room = c.requires.1 in (sound, search rules, λ k next r h. facts_room _ _ sound k _ (room k next r h), search rules, no_member_words, search rules)
 
 pub returns-in-Refused : goal.returns-in-Refused
 returns-in-Refused c =

@@ -10,16 +10,14 @@ pub returns-then-end-gt-LIMIT : goal.returns-then-end-gt-LIMIT
 returns-then-end-gt-LIMIT c = λ L e. site_long _ _ _ _ _ _ _ c.if-end-gt-LIMIT.true
 
 pub loop-at-init : goal.loop-at-init
-loop-at-init c =
-    let p = c.requires in
-    (omega arith, refl, refl, refl, λ L e. site_start _ _ _ _ _ _ _ (omega arith) p.3 p.4 p.5, λ z. refl, λ h. absurd (h refl))
+loop-at-init c = let p = c.requires in (omega arith, refl, refl, refl, λ L e. site_start _ _ _ _ _ _ _ (omega arith) p.3 p.4 p.5, λ z. refl, λ h. absurd (h refl))
 
 pub site_turn-t-requires : goal.site_turn-t-requires
 site_turn-t-requires c =
     let g = c.args.g in let p = c.requires in let most = up_to c.args.most in
     let so_far = c.loop-at.invariant in let read = so_far.4 most refl in (
       (sound_few _ g 0 g.rels p.0 (omega arith), p.1, size_small most _ _ _ _ _ _ _ _ read, λ h. rw so_far.1 (so_far.6 h)),
-      ((p.0.types-le, omega (arith, so_far.3, p.4.room)), (labels_so_far most _ _ _ _ _ _ _ _ read, (_, c.line-l.ensures.3))),
+      ((p.0.types_le, omega (arith, so_far.3, p.4.room)), (labels_so_far most _ _ _ _ _ _ _ _ read, (_, c.line-l.ensures.3))),
     )
 
 pub returns-in-Fault : goal.returns-in-Fault
@@ -37,9 +35,7 @@ pub loop-at-preserved : goal.loop-at-preserved
 loop-at-preserved c =
     let most = up_to
     c.args.most in
-    let line = c.line-l.ensures in let so_far = c.loop-at.invariant in
-    let turned = c.site_turn-t.ensures in
-    let told = c.in-Next.is in (
+    let line = c.line-l.ensures in let so_far = c.loop-at.invariant in let turned = c.site_turn-t.ensures in let told = c.in-Next.is in (
       line.1,
       search rules,
       search rules,
@@ -52,10 +48,8 @@ loop-at-preserved c =
 
 pub site_end-requires : goal.site_end-requires
 site_end-requires c =
-    let p = c.requires in
-    let so_far = c.loop-at.invariant in
-    let small = size_small (up_to c.args.most) _ _ _ _ _ _ _ _ (so_far.4 _ refl) in
-    (p.0.types-le, omega (arith, so_far.3, p.4.room), omega (arith, p.1, small))
+    let p = c.requires in let so_far = c.loop-at.invariant in let small = size_small (up_to c.args.most) _ _ _ _ _ _ _ _ (so_far.4 _ refl) in
+    (p.0.types_le, omega (arith, so_far.3, p.4.room), omega (arith, p.1, small))
 
 pub shape_of-labels : goal.shape_of-labels
 shape_of-labels c = c.loop-at.invariant.2

@@ -12,31 +12,28 @@ pub returns-then-is_no_place_for_label : goal.returns-then-is_no_place_for_label
 returns-then-is_no_place_for_label c = λ L e g z y. label_out_lem _ _ _ _ _ _ _ _ _ _ _ _ _ _ _ _ c.in-Label.is (sym c.is_no_place_for_label.ensures ∙ c.if-is_no_place_for_label.true)
 
 pub label-c-requires : goal.label-c-requires
-label-c-requires c =
-    let known = c.requires in
-    ((omega (arith, known.0), known.1.1.0), in_label _ _ _ known.1.1.1.1 _ _ _ _ c.in-Label.is)
+label-c-requires c = let known = c.requires in record { n_bound = (omega (arith, known.few_arities), known.by_index.0); t_lt_e = in_label _ _ _ known.by_index.1.1 _ _ _ _ c.in-Label.is }
 
 pub returns-then-is_no_place_for_member : goal.returns-then-is_no_place_for_member
 returns-then-is_no_place_for_member c = λ L e g z y. member_out_lem _ _ _ _ _ _ _ _ _ _ _ _ _ _ _ _ c.in-Member.is (sym c.is_no_place_for_member.ensures ∙ c.if-is_no_place_for_member.true)
 
 pub member-c-requires : goal.member-c-requires
 member-c-requires c =
-    let known = c.requires in
-    let f : length c.args.from.now ≡ 21 = search rules in let t : length c.args.to.now ≡ 21 = search rules in
-    let b = in_member _ _ _ known.1.1.1.1 _ _ _ _ c.in-Member.is in
+    let known = c.requires in let f : length c.args.from.now ≡ 21 = search rules in let t : length c.args.to.now ≡ 21 = search rules in
+    let b = in_member _ _ _ known.by_index.1.1 _ _ _ _ c.in-Member.is in
     rw c.member_line-m.ensures
-    ((known.1.0.0, omega (arith, f), omega (arith, t), omega (arith, known.0.1, known.0.2), known.1.0.1, b.1, b.2), known.1.1.0)
+    ((known.types_bound.0, omega (arith, f), omega (arith, t), omega (arith, known.few_arities.1, known.few_arities.2), known.types_bound.1, b.1, b.2), known.by_index.0)
 
 pub returns-then-st-eq0 : goal.returns-then-st-eq0
 returns-then-st-eq0 c = λ L e g z y. fact_early _ _ _ _ _ _ _ _ _ _ _ _ _ _ _ _ c.in-Fact.is c.if-st-eq0.true
 
 pub add-c-requires : goal.add-c-requires
 add-c-requires c =
-    let known = c.requires in let fact = in_fact _ _ _ known.1.1.1.1 _ _ _ _ c.in-Fact.is in
+    let known = c.requires in let fact = in_fact _ _ _ known.by_index.1.1 _ _ _ _ c.in-Fact.is in
     let f : length c.args.from.now ≡ 21 = search rules in let t : length c.args.to.now ≡ 21 = search rules in
     let d : length c.args.arity.now ≡ 13 = search rules in
     rw c.fact_line-f.ensures
-    ((arrays_of _ _ _ _ _ known.0.0 f t d, omega (arith, known.0.1, known.0.2), known.0.3 c.if-st-eq0.false), (fact, known.1.1.0))
+    ((arrays_of _ _ _ _ _ known.few_arities.0 f t d, omega (arith, known.few_arities.1, known.few_arities.2), known.few_arities.3 c.if-st-eq0.false), (fact, known.by_index.0))
 
 pub returns-in-Wrong : goal.returns-in-Wrong
 returns-in-Wrong c = search (rules, site_wrong)

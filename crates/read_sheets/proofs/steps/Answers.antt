@@ -26,9 +26,7 @@ loop-at-smaller c = omega (arith, c.line-l.ensures)
 
 pub loop-at-preserved : goal.loop-at-preserved
 loop-at-preserved c =
-    let l = c.loop-at in
-    let line = c.line-l.ensures in
-    let step = sym c.judge-v.ensures ∙ c.in-Number.is in (
+    let l = c.loop-at in let line = c.line-l.ensures in let step = sym c.judge-v.ensures ∙ c.in-Number.is in (
       line.1,
       omega (arith, line.0),
       c.put.auto.0 ∙ l.invariant.2,

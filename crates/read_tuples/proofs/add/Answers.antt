@@ -6,9 +6,10 @@ use Rattle.read_tuples.proofs.Adding.{no_signature, spot_limit, add_fault, add_1
 use Prim.Native.Nat.{◌/◌, ◌<◌}
 use lib.ListN.{length}
 use Rattle.read_tuples.proofs.add.Goals as goal
+use Rattle.read_tuples.proofs.add.Goals.{In-Bit}
 
 -- the bit of the tuple is in the table
-within : (c : goal.In-Bit-2) → c.in-Bit.b / 64 < length
+within : (c : In-Bit) → c.in-Bit.b / 64 < length
     c.args.table.now
 unfolding Roomy
 within c =
@@ -21,7 +22,7 @@ within c =
     )
 
 pub get-requires : goal.get-requires
-get-requires c = within (goal.at.get-requires c).In-Bit-1
+get-requires c = within (goal.at.get-requires c).In-Bit
 
 pub returns-then-get : goal.returns-then-get
 returns-then-get c =
@@ -30,7 +31,7 @@ returns-then-get c =
     c.in-Bit.is (sym c.get.ensures ∙ c.if-get.true)
 
 pub set-requires : goal.set-requires
-set-requires c = within (goal.at.set-requires c).In-Bit-1
+set-requires c = within (goal.at.set-requires c).In-Bit
 
 pub returns-in-Fault : goal.returns-in-Fault
 returns-in-Fault c = λ ls L g. add_fault _ _ _ _ _ ls _ _ _ _ _ (c.spot-place.ensures ls L g) _ c.in-Fault.is

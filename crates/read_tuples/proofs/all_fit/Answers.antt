@@ -4,28 +4,28 @@ use Rattle.read_tuples.proofs.Naming.{fit_none, fit_1, fit_2, unfit_2, fit_3, un
 use Rattle.read_tuples.proofs.all_fit.Goals as goal
 
 pub returns-then-fits : goal.returns-then-fits
-returns-then-fits c = fit_2 _ _ _ _ c.in-Two.is _ (λ f. sym c.if-fits.true ∙ c.fits-then-fits.ensures f) c.fits4.ensures
+returns-then-fits c = fit_2 _ _ _ _ c.in-Two.is _ (λ f. sym c.if-fits.true ∙ c.fits-in-Two.ensures f) c.fits-then-fits.ensures
 
 pub returns-then-fits-3 : goal.returns-then-fits-3
 returns-then-fits-3 c =
     fit_3 _ _ _ _ _ c.in-Three.is _
-    (λ f. sym c.if-fits-2.true ∙ c.fits-then-fits-2.ensures f)
-    (λ f. sym c.if-fits-3.true ∙ c.fits-then-fits-3.ensures f) c.fits7.ensures
+    (λ f. sym c.if-fits-2.true ∙ c.fits-in-Three.ensures f)
+    (λ f. sym c.if-fits-3.true ∙ c.fits-then-fits-2.ensures f) c.fits-then-fits-3.ensures
 
 pub returns-in-Unread : goal.returns-in-Unread
 returns-in-Unread c = fit_none c.args.n c.args.p c.in-Unread.is
 
 pub returns-in-One : goal.returns-in-One
-returns-in-One c = fit_1 _ _ _ _ c.in-One.is c.fits2.ensures
+returns-in-One c = fit_1 _ _ _ _ c.in-One.is c.fits.ensures
 
 pub returns-else-fits : goal.returns-else-fits
-returns-else-fits c = unfit_2 _ _ _ _ c.in-Two.is (λ f. sym c.if-fits.false ∙ c.fits3.ensures f)
+returns-else-fits c = unfit_2 _ _ _ _ c.in-Two.is (λ f. sym c.if-fits.false ∙ c.fits-in-Two.ensures f)
 
 pub returns-else-fits-3 : goal.returns-else-fits-3
 returns-else-fits-3 c =
     unfit_second _ _ _ _ _ c.in-Three.is
-    (λ f. sym c.if-fits-2.true ∙ c.fits-then-fits-2.ensures f)
-    (λ f. sym c.if-fits-3.false ∙ c.fits6.ensures f)
+    (λ f. sym c.if-fits-2.true ∙ c.fits-in-Three.ensures f)
+    (λ f. sym c.if-fits-3.false ∙ c.fits-then-fits-2.ensures f)
 
 pub returns-else-fits-2 : goal.returns-else-fits-2
-returns-else-fits-2 c = unfit_first _ _ _ _ _ c.in-Three.is (λ f. sym c.if-fits-2.false ∙ c.fits5.ensures f)
+returns-else-fits-2 c = unfit_first _ _ _ _ _ c.in-Three.is (λ f. sym c.if-fits-2.false ∙ c.fits-in-Three.ensures f)

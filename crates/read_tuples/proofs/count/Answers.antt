@@ -10,13 +10,17 @@ codes : (p : Places) {q : Places} → p ≡ q → length (codes_of q) ≡ length
 codes p e = rw e
 
 pub returns-in-Unread : goal.returns-in-Unread
+unfolding codes_of
 returns-in-Unread c = codes _ c.in-Unread.is
 
 pub returns-in-One : goal.returns-in-One
+unfolding codes_of
 returns-in-One c = codes _ c.in-One.is
 
 pub returns-in-Two : goal.returns-in-Two
+unfolding codes_of
 returns-in-Two c = codes _ c.in-Two.is
 
 pub returns-in-Three : goal.returns-in-Three
+unfolding codes_of
 returns-in-Three c = codes _ c.in-Three.is

@@ -27,7 +27,7 @@ pub hint-requires : goal.hint-requires
 hint-requires c = (simp length-set c.requires.n_bound.1.1.room, c.slot-first.ensures)
 
 pub shape_of-labels : goal.shape_of-labels
-shape_of-labels c = c.hint.auto.0 ∙ simp length-set
+shape_of-labels c = c.hint.auto.labels ∙ simp length-set
 
 pub returns : goal.returns
 returns c =

@@ -4,11 +4,13 @@ use native.Mathlib.Omega.{arith}
 use Rattle.read_names.proofs.Laws.{length_names}
 use Rattle.read_line.specs.Entries.{element_by}
 use Rattle.read_tuples.proofs.Joining.{type_below, member_untyped, member_wide, member_nobody, member_again, member_new}
+use mathlib.Core.List.{[]}
 use Prim.Native.Nat.{◌<◌}
 use Rattle.read_tuples.proofs.member.Goals as goal
+use Rattle.read_tuples.proofs.member.Goals.{In-At}
 
 -- the type is one of the eight
-few : (c : goal.In-At-2) → c.in-At.j < 8
+few : (c : In-At) → c.in-At.j < 8
 few c =
     let a = c.args in
     omega (
@@ -20,41 +22,41 @@ few c =
 pub returns-then-n-x : goal.returns-then-n-x
 returns-then-n-x c =
     λ ls L.
-    let fit = sym (c.fits2.ensures _) ∙ c.if-fits.true in
+    let fit = sym (c.fits.ensures _) ∙ c.if-fits.true in
     member_nobody _ _ ls _ _ _ _ _ c.type_named-f.ensures _
     c.in-At.is L.fit fit _ (c.value-x.ensures ls L) (omega arith)
 
 pub overflow_mul-j : goal.overflow_mul-j
-overflow_mul-j c = omega (arith, few (goal.at.overflow_mul-j c).In-At-1)
+overflow_mul-j c = omega (arith, few (goal.at.overflow_mul-j c).In-At)
 
 pub overflow_add-j : goal.overflow_add-j
-overflow_add-j c = omega (arith, few (goal.at.overflow_add-j c).In-At-1)
+overflow_add-j c = omega (arith, few (goal.at.overflow_add-j c).In-At)
 
 pub get-requires : goal.get-requires
-get-requires c = omega (arith, few (goal.at.get-requires c).In-At-1)
+get-requires c = omega (arith, few (goal.at.get-requires c).In-At)
 
 pub returns-then-get : goal.returns-then-get
 returns-then-get c =
     λ ls L.
-    let fit = sym (c.fits2.ensures _) ∙ c.if-fits.true in
+    let fit = sym (c.fits.ensures _) ∙ c.if-fits.true in
     let type = c.type_named-f.ensures in
     member_again _ _ ls _ _ _ _ _ type _ c.in-At.is L.fit fit _
     (c.value-x.ensures ls L)
     (omega arith) (omega arith) (sym c.get.ensures ∙ c.if-get.true)
 
 pub overflow_mul-j-then-fits : goal.overflow_mul-j-then-fits
-overflow_mul-j-then-fits c = omega (arith, few (goal.at.overflow_mul-j-then-fits c).In-At-1)
+overflow_mul-j-then-fits c = omega (arith, few (goal.at.overflow_mul-j-then-fits c).In-At)
 
 pub overflow_add-j-then-fits : goal.overflow_add-j-then-fits
-overflow_add-j-then-fits c = omega (arith, few (goal.at.overflow_add-j-then-fits c).In-At-1)
+overflow_add-j-then-fits c = omega (arith, few (goal.at.overflow_add-j-then-fits c).In-At)
 
 pub set-requires : goal.set-requires
-set-requires c = omega (arith, few (goal.at.set-requires c).In-At-1)
+set-requires c = omega (arith, few (goal.at.set-requires c).In-At)
 
 pub returns-then-fits : goal.returns-then-fits
 returns-then-fits c =
     λ ls L.
-    let fit = sym (c.fits2.ensures _)
+    let fit = sym (c.fits.ensures _)
     ∙ c.if-fits.true in
     let value = c.value-x.ensures ls L in
     let eight = c.requires.types_bound in
@@ -68,4 +70,4 @@ pub returns-in-Nowhere : goal.returns-in-Nowhere
 returns-in-Nowhere c = λ ls L. member_untyped _ _ ls _ _ _ _ _ c.type_named-f.ensures c.in-Nowhere.is
 
 pub returns-else-fits : goal.returns-else-fits
-returns-else-fits c = λ ls L. member_wide _ _ ls _ _ _ _ _ c.type_named-f.ensures _ c.in-At.is (sym (c.fits2.ensures _) ∙ c.if-fits.false)
+returns-else-fits c = λ ls L. member_wide _ _ ls _ _ _ _ _ c.type_named-f.ensures _ c.in-At.is (sym (c.fits.ensures _) ∙ c.if-fits.false)

@@ -1,4 +1,5 @@
 -- `read_tuples::row` meets its contract.
+use mathlib.Core.List.{[]}
 use native.Mathlib.Omega.{arith}
 use Rattle.read_tuples.proofs.Rows.{row_none, no_row, row_small, places_none, places_1, places_2, places_3}
 use Rattle.read_tuples.proofs.row.Goals as goal

@@ -34,14 +34,14 @@ pub bounds-labels-x-in-loop-x : goal.bounds-labels-x-in-loop-x
 bounds-labels-x-in-loop-x c = omega (arith, c.requires.1.1.room)
 
 pub overflow_sub-to : goal.overflow_sub-to
-overflow_sub-to c = (c.requires.1.1.in-text c.loop-x.x (omega arith)).0
+overflow_sub-to c = (c.requires.1.1.in_text c.loop-x.x (omega arith)).0
 
 pub alike-requires : goal.alike-requires
 alike-requires c =
     let l = c.loop-x in
     let k = c.span_length-wanted.ensures in
     let a = c.args in
-    (omega (arith, c.if-wanted-eq0.false), sym c.if-to-from.true ∙ sym (length-slice _ _ a.site.now (c.requires.1.1.in-text l.x (omega arith)).1), k)
+    (omega (arith, c.if-wanted-eq0.false), sym c.if-to-from.true ∙ sym (length-slice _ _ a.site.now (c.requires.1.1.in_text l.x (omega arith)).1), k)
 
 pub returns-then-alike : goal.returns-then-alike
 returns-then-alike c =
@@ -58,7 +58,7 @@ loop-x-smaller c = omega arith
 pub loop-x-preserved : goal.loop-x-preserved
 loop-x-preserved c =
     let l = c.loop-x in
-    let here = (c.requires.1.1.in-text l.x (omega arith)).1 in
+    let here = (c.requires.1.1.in_text l.x (omega arith)).1 in
     let length = c.span_length-wanted.ensures in (
       omega arith,
       ⊎_elim (λ w. other_bytes _ _ _ l.x l.invariant.1 (sym w.1.ensures ∙ w.2.left))

@@ -7,10 +7,12 @@ use Rattle.read_tuples.proofs.Naming.{list_count, list_fits}
 use Rattle.read_line.specs.Entries.{list_of}
 use Rattle.read_tuples.proofs.Adding.{no_signature, spot_unknown, found_bounds, spot_outside, spot_nobody, row_limit, spot_bit}
 use lib.ListN.{get_or}
+use mathlib.Core.List.{[]}
 use Rattle.read_tuples.proofs.spot.Goals as goal
+use Rattle.read_tuples.proofs.spot.Goals.{In-At}
 
 -- the relation is one of those looked up, and has as many places as the tuple
-bounds : (c : goal.In-At-2)
+bounds : (c : In-At)
     → let a = c.args in let i = c.in-At.i in
     (a.line.first ≤ i) × (i < a.line.first + a.line.count) × (get_or a.arity.now i 0 ≡ c.count-k.result)
 bounds c =
@@ -29,16 +31,16 @@ returns-then-all_fit c =
 
 pub word_of-first-requires : goal.word_of-first-requires
 word_of-first-requires c =
-    let b = bounds (goal.at.word_of-first-requires c).In-At-2 in
+    let b = bounds (goal.at.word_of-first-requires c).In-At in
     let p = c.requires in
-    (omega arith, b.0, omega (arith, p.0.few), p.0.length-arity, λ j h. p.0.arities j (omega arith))
+    (omega arith, b.0, omega (arith, p.0.few), p.0.length_arity, λ j h. p.0.arities j (omega arith))
 
 pub overflow_mul-result : goal.overflow_mul-result
-overflow_mul-result c = omega (arith, bounds (goal.at.overflow_mul-result c).In-At-2, c.word_of-first.ensures.1, c.requires.0.few)
+overflow_mul-result c = omega (arith, bounds (goal.at.overflow_mul-result c).In-At, c.word_of-first.ensures.1, c.requires.0.few)
 
 pub overflow_add-result : goal.overflow_add-result
 overflow_add-result c =
-    let p = c.requires in let b = bounds (goal.at.overflow_add-result c).In-At-2 in
+    let p = c.requires in let b = bounds (goal.at.overflow_add-result c).In-At in
     let count = list_count _ _ _ _ p.2 _ c.count-k.ensures in
     let row = rw (c.elements-v.ensures p.3.0 p.3.1) at c.row-w.ensures in
     let three = p.0.arities c.in-At.i (omega arith) in
@@ -67,7 +69,7 @@ returns-else-all_fit c =
 pub returns-in-At-w : goal.returns-in-At-w
 returns-in-At-w c =
     λ ls L g.
-    let p = c.requires in let b = bounds (goal.at.returns-in-At-w c).In-At-2 in
+    let p = c.requires in let b = bounds (goal.at.returns-in-At-w c).In-At in
     let count = list_count _ _ _ _ p.2 _ c.count-k.ensures in
     let row = rw (c.elements-v.ensures ls L) at c.row-w.ensures in
     let three = p.0.arities c.in-At.i (omega arith) in

@@ -1,6 +1,7 @@
 -- `read_tuples::values_of` meets its contract. There are as many fields as numbers, so the tabs between them are found.
 use native.Mathlib.Omega.{arith}
 use Rattle.read_tuples.proofs.Naming.{values_none, values_1, values_2, values_3, tab_2, tab_3, tab_4}
+use mathlib.Core.List.{[]}
 use Rattle.read_tuples.proofs.values_of.Goals as goal
 
 pub overflow_add-t : goal.overflow_add-t

@@ -5,9 +5,10 @@ use lib.ListN.{get_or}
 use Rattle.read_tuples.proofs.Rows.{power_le}
 use Rattle.read_tuples.proofs.Adding.{word_next, word_limit, word_none}
 use Rattle.read_tuples.proofs.word_of.Goals as goal
+use Rattle.read_tuples.proofs.word_of.Goals.{After-power-p}
 
 -- a relation has at most 4096 words
-words : (c : goal.After-power-p) → c.power-p.result ≤ 262144
+words : (c : After-power-p) → c.power-p.result ≤ 262144
 words c =
     let j = c.loop-j.j in
     omega (arith, c.power-p.ensures, power_le c.args.n (get_or c.args.arity.now j 0) (omega arith) (c.requires.4 j (omega arith)))

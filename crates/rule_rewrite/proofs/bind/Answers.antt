@@ -63,9 +63,7 @@ pub overflow_add-result : goal.overflow_add-result
 overflow_add-result c = omega (arith, (found (goal.at.overflow_add-result c).After-past_type-end).within, c.well_formed.0.0)
 
 pub returns-then-s-end-ne32 : goal.returns-then-s-end-ne32
-returns-then-s-end-ne32 c =
-    let h = c.loop-inner.invariant in
-    h.4 _ (λ w. bind_last _ _ _ w _ _ (front (goal.at.returns-then-s-end-ne32 c).After-past_type-end w) _ _ _ c.sort_at-sort.ensures h.1 h.2 h.3 c.if-s-end-ne32.true)
+returns-then-s-end-ne32 c = let h = c.loop-inner.invariant in h.4 _ (λ w. bind_last _ _ _ w _ _ (front (goal.at.returns-then-s-end-ne32 c).After-past_type-end w) _ _ _ c.sort_at-sort.ensures h.1 h.2 h.3 c.if-s-end-ne32.true)
 
 pub overflow_add-i-in-loop-inner : goal.overflow_add-i-in-loop-inner
 overflow_add-i-in-loop-inner c = omega (arith, (found (goal.at.overflow_add-i-in-loop-inner c).After-past_type-end).within, c.well_formed.0.0)

@@ -18,8 +18,7 @@ abbrev Fills : List ℕ → ℕ → Scope → Row → Leaf → Type 0
 Fills s at sc row r = (p : Bool) (k : ℕ) (ls : List ℕ) (w : VarsReady s at sc row.width) → row ≡ leaf_row p k ls → Filled s at sc p k ls w.vs r
 
 -- the variable after a space, in any list that stands there
-one : (c : After-run-e) → let a = c.args in
-    (w : VarsReady a.s.now c.loop-i.i a.sc c.loop-i.full.width)
+one : (c : After-run-e) → let a = c.args in (w : VarsReady a.s.now c.loop-i.i a.sc c.loop-i.full.width)
     → More a.s.now c.loop-i.i a.sc c.loop-i.full.width w.vs c.run-e.result
 one c w = vars_more _ _ _ _ w _ c.loop-i-test.true c.run-e.ensures
 

@@ -14,15 +14,13 @@ pub overflow_add-at-2 : goal.overflow_add-at-2
 overflow_add-at-2 c = omega (arith, ready_in c.requires.ready_in.ready, c.well_formed.0.0)
 
 pub number-which-requires : goal.number-which-requires
-number-which-requires c =
-    let h = c.requires in
-    (omega (arith, h.1.0.lent.count, h.1.0.ready.fixed.few), omega (arith, h.0.0), omega (arith, h.0.1))
+number-which-requires c = let h = c.requires in (omega (arith, h.ready_in.lent.count, h.ready_in.ready.fixed.few), omega (arith, h.in_bounds.0), omega (arith, h.in_bounds.1))
 
 pub fill-l-requires : goal.fill-l-requires
 fill-l-requires c = literal_vars c.requires.1 c.run-a.ensures
 
 pub put_row-requires : goal.put_row-requires
-put_row-requires c = let h = c.requires in (h.0.2, ready_rows h.1.0.ready)
+put_row-requires c = let h = c.requires in (h.in_bounds.2, ready_rows h.ready_in.ready)
 
 pub overflow_add-result : goal.overflow_add-result
 overflow_add-result c = omega (arith, ready_rows c.requires.ready_in.ready)

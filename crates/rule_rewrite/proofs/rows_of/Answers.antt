@@ -20,13 +20,13 @@ room c =
     c.positive-w-2.ensures c.totalities-u.ensures
 
 pub positive-w-requires : goal.positive-w-requires
-positive-w-requires c = (sizes (goal.at.positive-w-requires c).Start, plain_ready c.requires.accepted _)
+positive-w-requires c = record { in_bounds = sizes (goal.at.positive-w-requires c).Start; ready_in = plain_ready c.requires.accepted _ }
 
 pub returns-then-total-eq0 : goal.returns-then-total-eq0
 returns-then-total-eq0 c = plain_rows c.requires.accepted _ (sym (c.totalities-total.ensures.0 _) ∙ c.if-total-eq0.true) c.positive-w.ensures
 
 pub positive-w-requires-2 : goal.positive-w-requires-2
-positive-w-requires-2 c = (sizes (goal.at.positive-w-requires-2 c).Start, joined_ready c.requires.accepted _ c.totalities-total.ensures.0 c.if-total-eq0.false)
+positive-w-requires-2 c = record { in_bounds = sizes (goal.at.positive-w-requires-2 c).Start; ready_in = joined_ready c.requires.accepted _ c.totalities-total.ensures.0 c.if-total-eq0.false }
 
 pub totalities-u-requires : goal.totalities-u-requires
 totalities-u-requires c =

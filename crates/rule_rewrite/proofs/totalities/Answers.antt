@@ -9,7 +9,7 @@ pub overflow_add-end : goal.overflow_add-end
 overflow_add-end c = omega (arith, c.requires.chosen_bound.0)
 
 pub loop-i-init : goal.loop-i-init
-loop-i-init c = let h = c.requires in (omega (arith, h.0.0), refl, left_start _ _ (rows_many _ 0 0) (λ q. (h.1 q).0) (λ q. (h.1 q).1), h.0.1)
+loop-i-init c = let h = c.requires in (omega (arith, h.chosen_bound.0), refl, left_start _ _ (rows_many _ 0 0) (λ q. (h.by_index q).0) (λ q. (h.by_index q).1), h.chosen_bound.1)
 
 pub offset_bounds-sig-i : goal.offset_bounds-sig-i
 offset_bounds-sig-i c = omega (arith, c.loop-i.invariant.1, c.requires.chosen_bound.0)
@@ -27,9 +27,7 @@ pub overflow_add-i : goal.overflow_add-i
 overflow_add-i c = omega (arith, c.loop-i.invariant.1, c.requires.chosen_bound.0)
 
 pub totality_by_kind-u-requires : goal.totality_by_kind-u-requires
-totality_by_kind-u-requires c =
-    let h = c.loop-i.invariant in
-    (left_space _ _ _ _ h.2 (omega (arith, h.1)), left_nodes _ _ _ _ h.2 (omega (arith, h.1)), omega (arith, h.1, c.requires.chosen_bound.0), h.3)
+totality_by_kind-u-requires c = let h = c.loop-i.invariant in (left_space _ _ _ _ h.2 (omega (arith, h.1)), left_nodes _ _ _ _ h.2 (omega (arith, h.1)), omega (arith, h.1, c.requires.chosen_bound.0), h.3)
 
 pub overflow_add-i-in-loop-i : goal.overflow_add-i-in-loop-i
 overflow_add-i-in-loop-i c = omega (arith, c.loop-i.invariant.1, c.requires.chosen_bound.0)

@@ -8,4 +8,4 @@ pub slice_bounds-build_in-end : goal.slice_bounds-build_in-end
 slice_bounds-build_in-end c = sym (length-take-le _ _ (search rules))
 
 pub build_in-requires : goal.build_in-requires
-build_in-requires c = let q = c.requires in ((q.0, q.1, omega arith, q.3), length-take-le _ _ (search rules))
+build_in-requires c = let q = c.requires in record { fits = (q.0, q.1, omega arith, q.3); left_len = length-take-le _ _ (search rules) }

@@ -8,11 +8,7 @@ use Rattle.step_build.specs.Holding.{ready_as}
 use Rattle.step_build.proofs.end_round.Goals as goal
 
 pub step-ended-requires : goal.step-ended-requires
-step-ended-requires c =
-    (
-  (c.requires.0, omega (arith, c.requires.1)),
-  finish_fits _ _ c.finish_act-a.ensures,
-)
+step-ended-requires c = record { fits = (c.requires.0, omega (arith, c.requires.1)); act_fits = finish_fits _ _ c.finish_act-a.ensures }
 
 pub returns : goal.returns
 returns c =

@@ -9,16 +9,13 @@ use Rattle.step_build.proofs.follow.Goals as goal
 
 pub step-begun-requires : goal.step-begun-requires
 step-begun-requires c =
-    (
-  (
+    record { fits = (
     c.requires.0,
     omega (
       arith,
       c.set_picks-picked.ensures.0,
     ),
-  ),
-  tt,
-)
+  ); act_fits = tt }
 
 pub write_last-requires : goal.write_last-requires
 write_last-requires c =
@@ -30,9 +27,7 @@ write_last-requires c =
 
 pub returns : goal.returns
 returns c =
-    let q = c.requires in
-    let a = c.set_picks-picked in let b = c.step-begun in let w = c.write_rounds-written in let t = c.write_last in
-    λ x F B same e z.
+    let q = c.requires in let a = c.set_picks-picked in let b = c.step-begun in let w = c.write_rounds-written in let t = c.write_last in λ x F B same e z.
     let p = problem_of x in
     let v = rounds_are x F _ _ B _ c.rounds-last.ensures.2 in
     let S = a.ensures.1 p B.ready in

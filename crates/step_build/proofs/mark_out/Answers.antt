@@ -29,12 +29,10 @@ overflow_add-last-3 c =
 
 pub step-requires : goal.step-requires
 step-requires c =
-    (
-  (
+    record { fits = (
     c.requires.0,
     c.requires.2,
-  ),
-  (
+  ); act_fits = (
     omega (
       arith,
       c.requires.0.relations,
@@ -45,13 +43,11 @@ step-requires c =
       c.requires.1,
       every_few _ c.requires.0,
     ),
-  ),
-)
+  ) }
 
 pub returns : goal.returns
 returns c =
-    let q = c.requires in
-    let s = c.step in let n = c.node_line-last in (
+    let q = c.requires in let s = c.step in let n = c.node_line-last in (
       s.ensures.0,
       λ p G R. s.ensures.1 p _ R (out_is p _ R.is G _ q.1) (out_said _ _ _ (last_number p _ R.is G _ q.1)) (out_number p _ R.is G _ q.1 _ n.ensures _ c.every_tuples-count.ensures),
     )

@@ -21,8 +21,7 @@ end_round-requires c = (c.requires, omega arith)
 
 pub returns-else-prove_round : goal.returns-else-prove_round
 returns-else-prove_round c =
-    let l = c.loop-k in let q = c.prove_round in
-    λ x F B e. let I = l.invariant.3 x F B e in let v = rounds_are x F _ _ B _ c.rounds-last.ensures.2 in let h : l.k < values x = omega arith in
+    let l = c.loop-k in let q = c.prove_round in λ x F B e. let I = l.invariant.3 x F B e in let v = rounds_are x F _ _ B _ c.rounds-last.ensures.2 in let h : l.k < values x = omega arith in
     holds_not x F _ _ B _ _ _ h I.1 (q.ensures x F _ (building_as B l.invariant.1) h I.0).0 c.if-prove_round.false
 
 pub overflow_add-k : goal.overflow_add-k
@@ -33,8 +32,7 @@ loop-k-smaller c = omega arith
 
 pub loop-k-preserved : goal.loop-k-preserved
 loop-k-preserved c =
-    let l = c.loop-k in
-    let q = c.prove_round in let t = c.end_round in (
+    let l = c.loop-k in let q = c.prove_round in let t = c.end_round in (
       omega arith,
       t.auto.0 ∙ q.auto.0 ∙ l.invariant.1,
       t.auto.1.0 ∙ l.invariant.2,
@@ -47,7 +45,6 @@ loop-k-preserved c =
 
 pub returns : goal.returns
 returns c =
-    let l = c.loop-k in
-    λ x F B e. let I = l.invariant.3 x F B e in let v = rounds_are x F _ _ B _ c.rounds-last.ensures.2 in
+    let l = c.loop-k in λ x F B e. let I = l.invariant.3 x F B e in let v = rounds_are x F _ _ B _ c.rounds-last.ensures.2 in
     let h : suc l.k ≡ values x = omega (arith, c.rounds-last.ensures.0) in
     holds_last x F _ _ B _ _ _ h I.1 (c.prove_round-2.ensures x F _ (building_as B l.invariant.1) (omega arith) I.0)

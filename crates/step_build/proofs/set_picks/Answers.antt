@@ -12,9 +12,7 @@ pub loop-r-init : goal.loop-r-init
 loop-r-init c = (omega arith, omega arith, omega arith, refl, refl, λ p R. (word_first p, relations_start p _ _ _), search rules, search rules)
 
 pub set_relation-k-requires : goal.set_relation-k-requires
-set_relation-k-requires c =
-    let fits = c.requires in let line = c.relation_line-line.ensures in
-    let w = words_few _ _ fits _ line in (fits, omega arith, line_places _ fits _ _ line (omega arith), w.0, w.2, omega arith, omega arith)
+set_relation-k-requires c = let fits = c.requires in let line = c.relation_line-line.ensures in let w = words_few _ _ fits _ line in (fits, omega arith, line_places _ fits _ _ line (omega arith), w.0, w.2, omega arith, omega arith)
 
 pub words_in-word-requires : goal.words_in-word-requires
 words_in-word-requires c = (words_few _ _ c.requires _ c.relation_line-line.ensures).2
@@ -27,8 +25,7 @@ loop-r-smaller c = omega arith
 
 pub loop-r-preserved : goal.loop-r-preserved
 loop-r-preserved c =
-    let k = c.loop-r in
-    let w = words_few _ _ c.requires _ c.relation_line-line.ensures in (
+    let k = c.loop-r in let w = words_few _ _ c.requires _ c.relation_line-line.ensures in (
       omega arith,
       omega (arith, c.set_relation-k.ensures.0),
       omega (arith, c.words_in-word.ensures, w.3),

@@ -9,9 +9,7 @@ pub set_count-count-requires : goal.set_count-count-requires
 set_count-count-requires c = let s = c.requires in (s.4, omega (arith, s.2.firsts.inside), omega (arith, s.2.seconds.inside), c.is_whole-whole.ensures)
 
 pub set_rows-requires : goal.set_rows-requires
-set_rows-requires c =
-    let s = c.requires in
-    let count = c.set_count-count.ensures in ((s.0, s.1, s.2, s.3, s.5, s.6), (c.is_whole-whole.ensures, count.1, count.2))
+set_rows-requires c = let s = c.requires in let count = c.set_count-count.ensures in record { fits = (s.0, s.1, s.2, s.3, s.5, s.6); whole_value = (c.is_whole-whole.ensures, count.1, count.2) }
 
 pub returns-then-is_chosen : goal.returns-then-is_chosen
 returns-then-is_chosen c =

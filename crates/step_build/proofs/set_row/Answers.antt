@@ -4,7 +4,7 @@ use Rattle.step_build.specs.SetLaws.{row_yes, row_no, set_said}
 use Rattle.step_build.proofs.set_row.Goals as goal
 
 pub step-requires : goal.step-requires
-step-requires c = ((c.requires.0, c.requires.3), (c.requires.1, c.requires.2))
+step-requires c = record { fits = (c.requires.0, c.requires.3); act_fits = (c.requires.1, c.requires.2) }
 
 pub returns-then-picked : goal.returns-then-picked
 returns-then-picked c =

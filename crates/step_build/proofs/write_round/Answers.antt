@@ -7,8 +7,7 @@ use Rattle.step_build.proofs.write_round.Goals as goal
 
 pub returns : goal.returns
 returns c =
-    let f = c.fill_nodes in
-    let w = c.write_nodes-proved in let t = c.end_round in (
+    let f = c.fill_nodes in let w = c.write_nodes-proved in let t = c.end_round in (
       omega (arith, t.ensures.0, w.ensures.0),
       λ x F B h e.
           let K = f.ensures (problem_of x) (good x B.case) _ (fills x F _ _ B) (omega (arith, B.ready.is.nodes)) (end_is x F _ _ B) (known_first x F _ _ B _ h _ e) in

@@ -19,6 +19,4 @@ pub some_strays-requires : goal.some_strays-requires
 some_strays-requires c = (c.requires.table_len.0, c.requires.table_len.1, c.requires.start_bound.0, c.requires.start_bound.2)
 
 pub returns : goal.returns
-returns c =
-    let a = c.args in
-    breaks_stray _ _ _ _ (λ (i : ℕ). bit _ _) _ (sym c.crowds.ensures ∙ c.if-crowds.false) (typed_some a.line _ _ (sym c.is_whole.ensures ∙ c.if-is_whole.false) c.some_strays.ensures)
+returns c = let a = c.args in breaks_stray _ _ _ _ (λ (i : ℕ). bit _ _) _ (sym c.crowds.ensures ∙ c.if-crowds.false) (typed_some a.line _ _ (sym c.is_whole.ensures ∙ c.if-is_whole.false) c.some_strays.ensures)

@@ -5,9 +5,10 @@ use lib.ListN.{length-set}
 use Rattle.bits.specs.Table.{bit}
 use Rattle.step_picks.specs.CopyLaws.{line_start, line_tuples, line_next, line_end}
 use Rattle.step_picks.proofs.copy_relation.Goals as goal
+use Rattle.step_picks.proofs.copy_relation.Goals.{In-loop-j}
 
 -- words are left while tuples are
-left : (c : goal.In-loop-j) → 64 * c.loop-j.j < c.tuples_in-tuples.result
+left : (c : In-loop-j) → 64 * c.loop-j.j < c.tuples_in-tuples.result
 left c =
     line_tuples (bit c.args.state.now) _ _ _ _ c.loop-j.invariant.4
     c.loop-j.invariant.3 (omega arith)

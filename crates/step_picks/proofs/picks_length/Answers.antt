@@ -38,4 +38,4 @@ loop-r-preserved c =
 pub returns : goal.returns
 returns c =
     let e : c.loop-r.sum ≡ picks_in c.args.table.now = sym (count_end _ _ _ _ (omega arith)) ∙ c.loop-r.invariant.2 in
-    (e, λ p is. e ∙ picks_in_lem p _ is)
+    record { lines = e; picks = λ p is. e ∙ picks_in_lem p _ is }

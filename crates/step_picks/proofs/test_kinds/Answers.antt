@@ -22,9 +22,7 @@ pub overflow_mul-word : goal.overflow_mul-word
 overflow_mul-word c = omega arith
 
 pub breaks_kind-requires : goal.breaks_kind-requires
-breaks_kind-requires c =
-    let fits = c.requires in
-    ((fits.whole, line_places _ fits _ _ c.relation_line-line.ensures (omega arith), refl), (omega arith, fits.some, fits.size))
+breaks_kind-requires c = let fits = c.requires in record { table_len = (fits.whole, line_places _ fits _ _ c.relation_line-line.ensures (omega arith), refl); start_bound = (omega arith, fits.some, fits.size) }
 
 pub returns-then-breaks_kind : goal.returns-then-breaks_kind
 returns-then-breaks_kind c =
@@ -49,8 +47,7 @@ loop-r-smaller c = omega arith
 
 pub loop-r-preserved : goal.loop-r-preserved
 loop-r-preserved c =
-    let breaks-kind = c.breaks_kind in let relation-line = c.relation_line-line in
-    (
+    let breaks-kind = c.breaks_kind in let relation-line = c.relation_line-line in (
       omega arith,
       omega (arith, c.chosen-i.ensures, chosen_le relation-line.result.kind),
       omega (arith, c.words_in-word.ensures, (words_few _ _ c.requires _ relation-line.ensures).3),

@@ -23,8 +23,7 @@ shape_of-digits-then-d-n c = simp length-set c.loop-i.invariant.1
 
 pub returns-then-d-n : goal.returns-then-d-n
 returns-then-d-n c =
-    let l = c.loop-i in let a = c.args in
-    let some = c.requires.3 0 in (
+    let l = c.loop-i in let a = c.args in let some = c.requires.3 0 in (
       within_set a.n l.digits _ _ (omega arith) l.invariant.2,
       rest_set a.width (l.i - 1) _ l.digits (omega arith) l.invariant.3,
       λ row D. carry_done a.n a.width row l.i _ (omega arith) (omega arith) (omega arith) (omega arith) (l.invariant.4 row D) (omega arith),
@@ -35,8 +34,7 @@ bounds-digits-i-in-loop-i c = omega (arith, c.loop-i.invariant.1, c.requires.2)
 
 pub loop-i-preserved : goal.loop-i-preserved
 loop-i-preserved c =
-    let l = c.loop-i in let a = c.args in
-    let some = c.requires.3 0 in (
+    let l = c.loop-i in let a = c.args in let some = c.requires.3 0 in (
       omega arith,
       simp length-set l.invariant.1,
       within_set a.n l.digits _ _ (omega arith) l.invariant.2,

@@ -1,5 +1,6 @@
 -- `step_run::may` meets its contract.
 use mathlib.Core.Path.{sym, ◌∙◌}
+use mathlib.Core.List.{[]}
 use Rattle.bits.specs.Table.{bit}
 use Rattle.step_run.specs.RunLaws.{may_none, may_some}
 use Rattle.step_run.proofs.may.Goals as goal

@@ -28,8 +28,7 @@ returns-then-is_nothing c =
 
 pub returns-else-may_take : goal.returns-else-may_take
 returns-else-may_take c =
-    let action_at_lem = c.action_at-a in
-    λ p is h.
+    let action_at_lem = c.action_at-a in λ p is h.
     answer_is (run_from p (bit c.args.state.now) 0 c.args.steps.now) (NotNow c.loop-i.i) (bit c.loop-i.state) (refused 14 c.loop-i.i)
     (c.loop-i.invariant.2 p is h ∙ left_run p (bit c.loop-i.state) c.loop-i.i c.args.steps.now (omega arith)
     ∙ not_run p c.args.table.now is (bit c.loop-i.state) c.loop-i.i (get_or c.args.steps.now c.loop-i.i 0)
@@ -40,9 +39,7 @@ returns-else-may_take c =
 
 pub loop-i-preserved : goal.loop-i-preserved
 loop-i-preserved c =
-    let is-nothing = c.is_nothing in
-    let action_at_lem = c.action_at-a in
-    (
+    let is-nothing = c.is_nothing in let action_at_lem = c.action_at-a in (
       omega arith,
       c.take.auto.0 ∙ c.loop-i.invariant.1,
       λ p is h.

@@ -1,4 +1,5 @@
 -- `step_run::step` meets its contract.
+use mathlib.Core.List.{[]}
 use lib.ListN.{length}
 use Rattle.bits.specs.Table.{bit}
 use Rattle.step_run.specs.RunLaws.{step_is}

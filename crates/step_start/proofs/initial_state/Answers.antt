@@ -33,15 +33,12 @@ fill-requires c = omega (arith, atoms_words _ _ c.node_line-end.ensures _ c.ever
 
 pub returns : goal.returns
 returns c =
-    let p = c.put_relations in let r = c.raise in
-    let f = c.fill in
-    let s = c.requires in
-    let m = atoms_words _ _ c.node_line-end.ensures _ c.every_tuples-count.ensures in
-    begun _ _ _ _ _ s.0 (λ j. omega (
+    let p = c.put_relations in let r = c.raise in let f = c.fill in let s = c.requires in let m = atoms_words _ _ c.node_line-end.ensures _ c.every_tuples-count.ensures in
+    begun _ _ _ _ _ s.fits (λ j. omega (
       arith,
       c.type_inv.state
           j,
     )) (λ j. omega (arith, c.type_inv.state j))
-    (p.auto.0 ∙ r.auto.0 ∙ f.auto.0) m (omega (arith, m, s.1)) f.ensures.1
+    (p.auto.0 ∙ r.auto.0 ∙ f.auto.0) m (omega (arith, m, s.table_in_bounds)) f.ensures.1
     (λ h. r.ensures (omega (arith, f.auto.0)) ∙ sym (put_raise _ _))
     (λ h. p.ensures (subst (Room _) (sym (r.auto.0 ∙ f.auto.0)) h))

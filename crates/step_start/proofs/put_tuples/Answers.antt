@@ -36,5 +36,4 @@ set_range-requires c = let a = c.args in (omega arith, omega (arith, c.rows-coun
 pub returns : goal.returns
 returns c =
     λ h.
-    let q = c.rows-count.ensures in
-    tuples_count _ _ _ _ _ _ _ _ q (tuples_chosen _ _ _ _ _ _ _ (omega arith) (λ e. omega arith) (c.set_range.ensures (omega (arith, q))))
+    let q = c.rows-count.ensures in tuples_count _ _ _ _ _ _ _ _ q (tuples_chosen _ _ _ _ _ _ _ (omega arith) (λ e. omega arith) (c.set_range.ensures (omega (arith, q))))

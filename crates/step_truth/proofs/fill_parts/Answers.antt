@@ -38,7 +38,7 @@ loop-row-preserved c =
   omega (arith, c.loop-row-test.true),
   c.store.auto.0 ∙ l.invariant.1,
   r.1,
-  λ p G F node N K. let I = l.invariant.3 p G F node N K in let M = part_turn p G F _ _ node _ _ N _ _ _ refl q.3 _ refl q.0.some _ _ _ _ _ q.4 refl l.invariant.2 (omega (arith, c.loop-row-test.true)) (c.values_of-env.ensures.0 ∙ row_values_lem _ _ _) c.parts_word.ensures
+  λ p G F node N K. let I = l.invariant.3 p G F node N K in let M = part_turn p G F _ _ node _ _ N _ _ _ refl q.3 _ refl q.0.some _ _ _ _ _ q.4 refl l.invariant.2 (omega (arith, c.loop-row-test.true)) (c.values_of-env.ensures.0 ∙ row_values_lem _ _ _) c.parts_word-own.ensures
       (λ h. c.store.ensures (omega (arith, h, l.invariant.1))) I.0 in (M.0, λ i o. M.1 i o ∙ I.1 i o),
 )
 

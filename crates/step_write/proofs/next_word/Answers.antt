@@ -14,10 +14,7 @@ pub loop-k-smaller : goal.loop-k-smaller
 loop-k-smaller c = omega arith
 
 pub loop-k-preserved : goal.loop-k-preserved
-loop-k-preserved c =
-    let l = c.loop-k in
-    let a = c.args in
-    (omega arith, omega arith, words_next a.words.now a.j l.k l.invariant.2 (sym c.word_at.ensures ∙ c.if-word_at-ne0.false))
+loop-k-preserved c = let l = c.loop-k in let a = c.args in (omega arith, omega arith, words_next a.words.now a.j l.k l.invariant.2 (sym c.word_at.ensures ∙ c.if-word_at-ne0.false))
 
 pub returns : goal.returns
 returns c = c.loop-k.invariant

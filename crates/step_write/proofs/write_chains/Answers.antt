@@ -35,8 +35,7 @@ overflow_add-action c = omega (arith, c.requires.2, c.requires.6, div-add-mod' c
 -- src/lib.rt:201:5
 pub loop-j-init : goal.loop-j-init
 loop-j-init c =
-    let q = c.requires in
-    let n : ℕ = size_in c.args.table.now in
+    let q = c.requires in let n : ℕ = size_in c.args.table.now in
     let s : ℕ = c.args.start in
     let d = div-add-mod' s n in
     let w = whole_of (s / n) n q.0.some in (
@@ -51,17 +50,12 @@ loop-j-init c =
 -- src/lib.rt:202:9
 pub write_chain-k-requires : goal.write_chain-k-requires
 write_chain-k-requires c =
-    let q = c.requires in
-    let l = c.loop-j in
-    let low = acts_low _ c.args.v.count _ _ (omega arith) l.invariant.3 in
+    let q = c.requires in let l = c.loop-j in let low = acts_low _ c.args.v.count _ _ (omega arith) l.invariant.3 in
     (q.0, q.8, omega (arith, q.0.size), q.3, omega (arith, q.6), omega (arith, q.2, q.6, low, l.invariant.4), omega (arith, q.7, q.6))
 
 -- src/lib.rt:204:9
 pub overflow_add-action-in-loop-j : goal.overflow_add-action-in-loop-j
-overflow_add-action-in-loop-j c =
-    let q = c.requires in
-    let l = c.loop-j in
-    omega (arith, q.2, q.6, q.0.size, acts_low _ _ _ _ c.if-n-v.false l.invariant.3, l.invariant.4)
+overflow_add-action-in-loop-j c = let q = c.requires in let l = c.loop-j in omega (arith, q.2, q.6, q.0.size, acts_low _ _ _ _ c.if-n-v.false l.invariant.3, l.invariant.4)
 
 -- src/lib.rt:201:5
 pub loop-j-smaller : goal.loop-j-smaller
@@ -70,10 +64,7 @@ loop-j-smaller c = omega (arith, c.requires.0.some)
 -- src/lib.rt:201:5
 pub loop-j-preserved : goal.loop-j-preserved
 loop-j-preserved c =
-    let l = c.loop-j in
-    let q = c.requires in
-    let f = c.write_chain-k in
-    let r = row_on _ _ q.0.some l.invariant.3 in (
+    let l = c.loop-j in let q = c.requires in let f = c.write_chain-k in let r = row_on _ _ q.0.some l.invariant.3 in (
       omega (arith, c.loop-j-test.true),
       omega (arith, f.ensures.0, l.invariant.1, c.if-n-v.false),
       f.auto.1.0 ∙ l.invariant.2,

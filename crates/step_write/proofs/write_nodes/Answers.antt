@@ -15,9 +15,7 @@ write_node-k-requires c = let q = c.requires in (q.0, omega (arith, q.1), omega 
 
 pub loop-v-preserved : goal.loop-v-preserved
 loop-v-preserved c =
-    let l = c.loop-v in
-    let q = c.requires in
-    let w = c.write_node-k in (
+    let l = c.loop-v in let q = c.requires in let w = c.write_node-k in (
       omega arith,
       atoms_few _ _ _ q.0 c.node_line-line.ensures,
       omega (arith, w.ensures.0, c.gap-width.ensures),

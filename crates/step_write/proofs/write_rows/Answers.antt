@@ -22,9 +22,7 @@ loop-row-init c = let d = c.digits_at in (omega arith, c.requires.5, omega arith
 
 -- src/lib.rt:132:9
 pub write_row-k-requires : goal.write_row-k-requires
-write_row-k-requires c =
-    let q = c.requires in let i = c.loop-row.invariant in
-    (q.0, q.1, q.2, q.3, omega (arith, q.6), omega (arith, q.7, q.6), q.4, c.tries-m.ensures.0, i.4, i.5, i.6, q.8)
+write_row-k-requires c = let q = c.requires in let i = c.loop-row.invariant in (q.0, q.1, q.2, q.3, omega (arith, q.6), omega (arith, q.7, q.6), q.4, c.tries-m.ensures.0, i.4, i.5, i.6, q.8)
 
 -- src/lib.rt:133:13
 pub next_row-next-requires : goal.next_row-next-requires
@@ -32,10 +30,7 @@ next_row-next-requires c = let q = c.requires in (q.3, omega arith, q.6)
 
 -- src/lib.rt:134:9
 pub move_to-requires : goal.move_to-requires
-move_to-requires c =
-    let q = c.requires in
-    let i = c.loop-row.invariant in
-    (q.0.some, omega (arith, q.0.size), q.1.width, omega (arith, q.6), i.4, i.5, i.6)
+move_to-requires c = let q = c.requires in let i = c.loop-row.invariant in (q.0.some, omega (arith, q.0.size), q.1.width, omega (arith, q.6), i.4, i.5, i.6)
 
 -- src/lib.rt:131:5
 pub loop-row-smaller : goal.loop-row-smaller
@@ -44,11 +39,7 @@ loop-row-smaller c = omega (arith, c.next_row-next.ensures.0)
 -- src/lib.rt:131:5
 pub loop-row-preserved : goal.loop-row-preserved
 loop-row-preserved c =
-    let l = c.loop-row in
-    let q = c.write_row-k in
-    let d = c.move_to in
-    let f = c.next_row-next.ensures in
-    let t = c.tries-m in (
+    let l = c.loop-row in let q = c.write_row-k in let d = c.move_to in let f = c.next_row-next.ensures in let t = c.tries-m in (
       omega (arith, f.0),
       f.1,
       omega (arith, q.ensures.0, f.0),
@@ -67,7 +58,4 @@ shape_of-steps c = c.loop-row.invariant.3
 
 -- src/lib.rt:112:1
 pub returns : goal.returns
-returns c =
-    let l = c.loop-row in
-    let a = c.args in
-    (omega arith, λ p G F node width R h. let e : l.row ≡ a.end = omega arith in rows_all p F node _ _ _ _ _ _ _ e (l.invariant.8 p G F node width R h))
+returns c = let l = c.loop-row in let a = c.args in (omega arith, λ p G F node width R h. let e : l.row ≡ a.end = omega arith in rows_all p F node _ _ _ _ _ _ _ e (l.invariant.8 p G F node width R h))

@@ -16,5 +16,5 @@ pub picks-a-requires : goal.picks-a-requires
 unfolding words_for
 picks-a-requires c =
     let (f, e, h, l) = filed_read (up_to 16) _ _ _ _ _ (c.read_filed-o.ensures (up_to 16) refl) c.if-o-ne0.false in
-    let p = pow-le-pow_left h.few-elements 3 in
-    ((h.sound, h.few-elements, picks_room_lem _ _ h.sound _ 16384 (omega (arith, p)), zeros_clear 16384), (f.labels, l))
+    let p = pow-le-pow_left h.few_elements 3 in
+    record { sound_signature = (h.sound, h.few_elements, picks_room_lem _ _ h.sound _ 16384 (omega (arith, p)), zeros_clear 16384); labels_are = (f.labels, l) }
