@@ -1,6 +1,7 @@
 // Tuples of a `fact` or `pick` line as bits: each relation from a new word on, a tuple's bit at its row; the labels of elements as
 // spans of the site's text; the members of types as bits, a word a type; refusals 7, 19, 9, 18 and 10.
 #![tactic(auto)]
+
 ghost use Rattle.std.specs.Prelude.{◌≡◌, List, ◌∷◌, [], ◌++◌, true, ℕ, ◌+◌, ◌-◌, ◌*◌, ◌^◌, ◌≤◌, ◌<◌, length, get_or, set};
 ghost use Rattle.std.proofs.Math.Seq.{slice};
 ghost use Rattle.definitions.specs.Lists.{all, same as «same_text»};

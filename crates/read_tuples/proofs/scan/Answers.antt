@@ -5,6 +5,7 @@ use native.Mathlib.Omega.{arith}
 use lib.Seq.{length-slice}
 use Rattle.read_tuples.proofs.Naming.{not_yet, other_length, other_bytes, found_here, found_nowhere, found_empty}
 use Rattle.read_tuples.proofs.scan.Goals as goal
+use Rattle.read_tuples.proofs.scan.Goals.{then-to-from+else-alike, else-to-from}
 
 pub returns-then-wanted-eq0 : goal.returns-then-wanted-eq0
 returns-then-wanted-eq0 c = λ ls L. found_empty _ _ c.args.n ls L _ (sym c.span_length-wanted.ensures ∙ c.if-wanted-eq0.true)
@@ -61,8 +62,10 @@ loop-x-preserved c =
     let here = (c.requires.1.1.in_text l.x (omega arith)).1 in
     let length = c.span_length-wanted.ensures in (
       omega arith,
-      ⊎_elim (λ w. other_bytes _ _ _ l.x l.invariant.1 (sym w.1.ensures ∙ w.2.left))
-          (λ w. other_length _ _ _ l.x l.invariant.1 here (λ q. w.left (q ∙ sym length))) c.if-to-from.branch,
+      elim c.if-to-from.branch [
+        | then-to-from+else-alike w ↦ other_bytes _ _ _ l.x l.invariant.1 (sym w.alike.ensures ∙ w.if-alike.false)
+        | else-to-from w ↦ other_length _ _ _ l.x l.invariant.1 here (λ q. w.if-to-from.false (q ∙ sym length))
+      ],
     )
 
 pub returns : goal.returns
