@@ -1,6 +1,7 @@
 // Whether the rule is true of picks: each node is searched element by element and part by part, and left at the first witness or the
 // first failure. Nothing is written; facts and picks are lent as bits.
 #![tactic(auto)]
+
 ghost use Rattle.std.specs.Prelude.{◌≡◌, ◌+◌, ◌*◌, ◌^◌, ◌<◌, ◌≤◌, length, get_or};
 ghost use Rattle.definitions.specs.Sheet.Relations.{built_in_holds};
 ghost use Rattle.definitions.specs.Problem.Tree.{Tree};

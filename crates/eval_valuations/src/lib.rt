@@ -1,6 +1,7 @@
 // The truth of a rule for sixty-four valuations of its chosen literals at once: digit j of a word is for valuation j. The lines are those
 // of `eval_rule`; for a chosen literal a word is lent for its tuple, and one for its not-tuple, at the tuple's bit among the picks.
 #![tactic(auto)]
+
 ghost use Rattle.std.specs.Prelude.{◌≡◌, ℕ, ◌^◌, ◌<◌, ◌≤◌, get_or};
 ghost use Rattle.definitions.specs.Problem.Tree.{Tree};
 ghost use Rattle.bits.specs.Table.{digit};

@@ -1,5 +1,6 @@
 // The words of a plan's lines (document 02, job 11): of objects, and of actions by their names.
 #![tactic(auto)]
+
 ghost use Rattle.std.specs.Prelude.{◌<◌};
 ghost use Rattle.definitions.specs.Reply.Pddl.{object_word};
 ghost use Rattle.print_bytes.specs.Emitted.{Emits};

@@ -1,5 +1,6 @@
 // The lines of a step and the bytes of a page (document 02, job 9).
 #![tactic(auto)]
+
 ghost use Rattle.std.specs.Prelude.{◌≡◌, List, [], ◌∷◌, ◌++◌, ℕ, suc, ◌+◌, ◌-◌, ◌*◌, ◌^◌, ◌≤◌, ◌<◌, length, take, drop, get_or, replicate};
 ghost use Rattle.std.proofs.Math.Option.{some};
 ghost use Rattle.print_line.specs.Lines.{said_by};

@@ -1,5 +1,6 @@
 // Where the numbers of atoms and actions start; and the flat table that steps read, filled from that.
 #![tactic(auto)]
+
 ghost use Rattle.std.specs.Prelude.{◌≡◌, List, ℕ, suc, ◌+◌, ◌-◌, ◌*◌, ◌^◌, ◌<◌, ◌≤◌, get_or, length};
 ghost use Rattle.definitions.specs.Problem.Atoms.{Problem};
 ghost use Rattle.rule_nodes.specs.Tables.{Fits, no_part, PartFits};

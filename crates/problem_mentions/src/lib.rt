@@ -1,5 +1,6 @@
 // Which nodes of a table have a literal of a relation somewhere below them, and how many atoms these have.
 #![tactic(auto)]
+
 ghost use Rattle.std.specs.Prelude.{◌≡◌, ◌||◌, List, ℕ, ◌≤◌, ◌<◌, eqb, ltb};
 ghost use Rattle.definitions.specs.Lists.{if◌then◌else◌};
 ghost use Rattle.definitions.specs.Reply.Allowance.{allowance as «allowance_of»};

@@ -2,6 +2,7 @@
 // passes 2^46: with at most 64 elements, 18 relations have fewer than 2^30 atoms, 64 nodes at most 2^30 each, and the bound counts the
 // nodes' atoms for each of at most 2^8 values of an `every` relation.
 #![tactic(auto)]
+
 ghost use Rattle.std.specs.Prelude.{◌≡◌, List, ℕ, ◌^◌, ◌≤◌, ◌<◌};
 ghost use Rattle.definitions.specs.Problem.Atoms.{Problem};
 ghost use Rattle.rule_nodes.specs.Tables.{Fits};

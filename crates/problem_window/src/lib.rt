@@ -1,5 +1,6 @@
 // The window of a case by one pass over its node table: how many layers its plans have at the least, and the built ones at the most.
 #![tactic(auto)]
+
 ghost use Rattle.std.specs.Prelude.{◌≡◌, List, ℕ, ◌^◌, ◌≤◌, ◌<◌, max, min, eqb, ltb};
 ghost use Rattle.definitions.specs.Lists.{if◌then◌else◌};
 ghost use Rattle.definitions.specs.Problem.Atoms.{Problem};

@@ -1,5 +1,6 @@
 // The rule line of document 01, with the types of document 02: reading its formula, and the refusals 5 to 8 and 19 of its field.
 #![tactic(auto)]
+
 ghost use Rattle.std.specs.Prelude.{◌≡◌, true, false, ◌&&◌, List, [], ◌∷◌, ℕ, ◌+◌, ◌-◌, ◌^◌, ◌≤◌, ◌<◌, length, drop};
 ghost use Rattle.std.proofs.Math.Seq.{slice};
 ghost use Rattle.definitions.specs.Lists.{same, any as any_of};

@@ -1,6 +1,7 @@
 // What building asks of one row of a node: the values of its variables, where its parts lie along a variable, and which of its actions is
 // the first that may be taken.
 #![tactic(auto)]
+
 ghost use Rattle.std.specs.Prelude.{◌≡◌, true, List, [], ◌∷◌, ℕ, ◌+◌, ◌-◌, ◌*◌, ◌/◌, ◌%◌, ◌^◌, ◌<◌, ◌≤◌, length, get_or, take, set as «set_at»};
 ghost use Rattle.definitions.specs.Problem.Atoms.{Problem, places_of};
 ghost use Rattle.definitions.specs.Problem.Actions.{Action, action_number, values_in, with_value};

@@ -42,7 +42,11 @@
 // each under its name. Any other line ends the run, and is written, with all that follows it, under a word that says so.
 #![tactic(auto)]
 ghost use Rattle.std.specs.Prelude.{◌≤◌, ◌<◌, length};
+ghost use Rattle.io.specs.Counts.{IsPrefixLen};
 ghost use Rattle.open_tries.specs.Begun.{ReadyToTry};
+
+use std::fs::File;
+use std::io::Read;
 
 use call_action::Asked;
 use call_sizes::{Sizing, Tallied};
@@ -1417,9 +1421,36 @@ fn write_desk(name: &[u8], input: &[u8]) {
     io::write_all(1, &out[..length]);
 }
 
+// Reads until `buf` is full, the file ends or a read fails, and tells how many bytes it put at the start of `buf`.
+fn read_full(file: &mut File, buf: &mut [u8]) -> usize
+    ensures { IsPrefixLen result buf.new }
+{
+    let mut done = 0;
+    while done < buf.len() {
+        let more = read_more(file, buf, done);
+        if more == done {
+            return done;
+        }
+        done = more;
+    }
+    done
+}
+
+// One read, to the bytes from `at` on: how many bytes are in then.
+fn read_more(file: &mut File, buf: &mut [u8], at: usize) -> usize
+    requires { at ≤ length buf.old }
+    ensures { (at ≤ result) × (result ≤ length buf.old) }
+{
+    let rest = &mut buf[at..];
+    match file.read(rest) {
+        Ok(more) => at + more,
+        Err(_) => at,
+    }
+}
+
 // Reads an input that has as many bytes as `input`, writes its reply, and tells whether it was there.
-fn desk(fd: i32, name: &[u8], input: &mut [u8]) -> bool {
-    if io::read_full(fd, input) < input.len() {
+fn desk(file: &mut File, name: &[u8], input: &mut [u8]) -> bool {
+    if read_full(file, input) < input.len() {
         return false;
     }
     write_desk(name, input);
@@ -1428,9 +1459,9 @@ fn desk(fd: i32, name: &[u8], input: &mut [u8]) -> bool {
 
 // Reads one header (a name of four bytes, a tab, five digits for the length of the input, a line's end) and its input, and tells whether
 // there was one.
-fn run_input(fd: i32) -> bool {
+fn run_input(file: &mut File) -> bool {
     let mut head = [0u8; 11];
-    if io::read_full(fd, &mut head) < 11 {
+    if read_full(file, &mut head) < 11 {
         return false;
     }
     let count = length_in(head);
@@ -1438,28 +1469,24 @@ fn run_input(fd: i32) -> bool {
     if 100000 < count {
         return false;
     }
-    desk(fd, &head[..4], &mut input[..count])
+    desk(file, &head[..4], &mut input[..count])
 }
 
 // A proved loop has to end: there are no more than 10,000 names of four digits.
-fn run_inputs(fd: i32) {
+fn run_inputs(file: &mut File) {
     let mut left: usize = 10000;
     while 0 < left {
-        if !run_input(fd) {
+        if !run_input(file) {
             return;
         }
         left -= 1;
     }
 }
 
-fn main() {
+fn main(rt: HostRuntime) -> std::io::Result<()> {
     let mut script = [0u8; SCRIPT];
     run_script(&mut script);
-    let fd = os::open_read(b"inputs");
-    if fd < 0 {
-        os::fail(b"inputs");
-        return;
-    }
-    run_inputs(fd);
-    libc::close(fd);
+    let mut file = File::open(&rt, "inputs")?;
+    run_inputs(&mut file);
+    Ok(())
 }

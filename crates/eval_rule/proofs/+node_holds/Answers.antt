@@ -1,6 +1,5 @@
 use Prim.Native.Nat.{◌+◌, ◌-◌, ◌≤◌, ℕ, ◌<◌}
 use mathlib.Core.Path.{◌≡◌, refl, sym, ◌∙◌}
-use mathlib.Core.Logic.{⊎_elim}
 use native.Mathlib.Omega.{arith}
 use borrow.Author.Rules.{rules}
 use lib.Dec.{eqb}
@@ -14,7 +13,7 @@ use Rattle.eval_rule.specs.Laws.{value_small, turns_start, parts_start, parts_ne
 use Rattle.eval_rule.specs.Laws.{none_ends, cell_node, cell_leaf, known_is, later_over, still_is, passed_none, passed_over, passed_back}
 use Rattle.eval_rule.specs.Laws.{passed_next, cell_known, fixed_ends}
 use Rattle.eval_rule.proofs.+node_holds.Goals as goal
-use Rattle.eval_rule.proofs.+node_holds.Goals.{After-node_at-x, Joined-is_known}
+use Rattle.eval_rule.proofs.+node_holds.Goals.{After-node_at-x, Joined-is_known, then-is_known, else-is_known+then-q-eq0, else-is_known+else-q-eq0}
 
 -- what the node's line says is small: its level, where its parts end, where its range ends
 line-says : (t : ℕ) (c : After-node_at-x t)
@@ -26,21 +25,22 @@ line-says t c =
 cell : (t : ℕ) (c : Joined-is_known t) →
     let a = c.args in let x = c.node_at-x in let e = c.elements in let u = c.value_at in let o = c.parts in IsCell a.n a.lines.now (leaf_at a.facts.now a.picks.now a.n) a.v (value_in (set e.values x.result.level u.result)) o.i c.if-is_known.b
 cell t c =
-    let parts-test = c.parts-test in let e = c.elements in let x = c.node_at-x in let a = c.args in let u = c.value_at in let o = c.parts in let f = c.is_fixed-fixed in let q = c.part_at-q in let k = c.is_known in ⊎_elim
-    (λ w. let z = known_is f.result o.i o.seen k.result k.ensures w.0.taken in
-    cell_known a.n a.lines.now (leaf_at a.facts.now a.picks.now a.n) a.v x.result.level x.result.first x.result.many (eqb x.result.join 1)
-    (value_in (set e.values x.result.level u.result)) o.seen o.invariant.4 o.i z.1 (sym f.ensures ∙ z.0) c.if-is_known.b w.1)
-    (⊎_elim
-    (λ w. cell_node a.n a.lines.now (leaf_at a.facts.now a.picks.now a.n) a.v x.result x.ensures o.i (omega (arith, parts-test.true)) q.result q.ensures
-    (set e.values x.result.level u.result) c.if-is_known.b w.2.taken (λ H root h. w.4 ∙ w.3.ensures H root h))
-    (λ w. cell_leaf a.n a.lines.now (leaf_at a.facts.now a.picks.now a.n) a.v x.result x.ensures o.i (omega (arith, parts-test.true)) q.result q.ensures
-    (set e.values x.result.level u.result) c.if-is_known.b w.2.left
-    (within_set a.n e.values x.result.level u.result
-    (value_small _ _ _ _ _ u.ensures
-    (element_small _ _ c.requires.0 _ c.requires.1 _ x.ensures (x.result.count - e.left) (omega
-    (arith, c.elements-test.true, e.invariant.0))) (c.requires.2 x.result.level)) e.invariant.3)
-    (w.4 ∙ w.3.ensures)))
-    c.if-is_known.branch
+    let parts-test = c.parts-test in let e = c.elements in let x = c.node_at-x in let a = c.args in let u = c.value_at in let o = c.parts in let f = c.is_fixed-fixed in let q = c.part_at-q in let k = c.is_known in elim c.if-is_known.branch [
+      | then-is_known w ↦ let z = known_is f.result o.i o.seen k.result k.ensures w.if-is_known.true in
+          cell_known a.n a.lines.now (leaf_at a.facts.now a.picks.now a.n) a.v x.result.level x.result.first x.result.many (eqb x.result.join 1)
+          (value_in (set e.values x.result.level u.result)) o.seen o.invariant.4 o.i z.1 (sym f.ensures ∙ z.0) c.if-is_known.b w.b-is
+      | else-is_known+then-q-eq0 w ↦
+          cell_node a.n a.lines.now (leaf_at a.facts.now a.picks.now a.n) a.v x.result x.ensures o.i (omega (arith, parts-test.true)) q.result q.ensures
+          (set e.values x.result.level u.result) c.if-is_known.b w.if-q-eq0.true (λ H root h. w.b-is ∙ w.node_holds.ensures H root h)
+      | else-is_known+else-q-eq0 w ↦
+          cell_leaf a.n a.lines.now (leaf_at a.facts.now a.picks.now a.n) a.v x.result x.ensures o.i (omega (arith, parts-test.true)) q.result q.ensures
+          (set e.values x.result.level u.result) c.if-is_known.b w.if-q-eq0.false
+          (within_set a.n e.values x.result.level u.result
+          (value_small _ _ _ _ _ u.ensures
+          (element_small _ _ c.requires.0 _ c.requires.1 _ x.ensures (x.result.count - e.left) (omega
+          (arith, c.elements-test.true, e.invariant.0))) (c.requires.2 x.result.level)) e.invariant.3)
+          (w.b-is ∙ w.leaf_holds.ensures)
+    ]
 
 pub node_at-x-requires : goal.node_at-x-requires
 node_at-x-requires t c = (c.requires.0.whole, c.requires.1)

@@ -1,6 +1,5 @@
 use Prim.Native.Nat.{◌+◌, ◌-◌, ◌≤◌, ℕ, ◌<◌}
 use mathlib.Core.Path.{◌≡◌, refl, ap, ◌∙◌}
-use mathlib.Core.Logic.{⊎_elim}
 use native.Mathlib.Omega.{arith}
 use borrow.Author.Rules.{rules}
 use lib.Dec.{eqb}
@@ -13,7 +12,7 @@ use Rattle.eval_rule.specs.Laws.{level_small, parts_small, range_inside, element
 use Rattle.eval_valuations.specs.Words.{leaf_in}
 use Rattle.eval_valuations.specs.Laws.{IsPart, settled_none, settled_more, settled_over, parts_begin, turns_begin, parts_more, turns_more, node_ends, part_node, part_leaf, skip_on}
 use Rattle.eval_valuations.proofs.+node_words.Goals as goal
-use Rattle.eval_valuations.proofs.+node_words.Goals.{After-node_at-x, After-value_at, Joined-q-eq0, Start}
+use Rattle.eval_valuations.proofs.+node_words.Goals.{After-node_at-x, After-value_at, Joined-q-eq0, Start, then-q-eq0, else-q-eq0}
 
 -- what the node's line says is small: its level, where its parts end, where its range ends
 line-says : (t : ℕ) (c : After-node_at-x t)
@@ -32,15 +31,16 @@ module _ (t : ℕ) (c : After-value_at t) where
       (value_small _ _ _ _ _ c.value_at.ensures (element_small _ _ c.requires.0 _ c.requires.1 _ x.ensures e.turn c.elements-test.true) (c.requires.2 x.result.level)) e.invariant.2
 
 -- what a part gives: a node by its own call, a literal by its line
-part : (t : ℕ) (c : Joined-q-eq0 t) →
-    let a = c.args in let x = c.node_at-x in let e = c.elements in IsPart a.n a.lines.now a.facts.now a.pos.now a.neg.now a.v (value_in (set e.values x.result.level c.value_at.result)) c.parts.i c.if-q-eq0.w
-part t c =
-    let a = c.args in let x = c.node_at-x in let e = c.elements in let o = c.parts in let q = c.part_at-q in let u = c.value_at in ⊎_elim
-    (λ w. part_node a.n a.lines.now a.facts.now a.pos.now a.neg.now a.v x.result x.ensures o.i (omega (arith, c.parts-test.true)) q.result q.ensures
-    (set e.values x.result.level u.result) c.if-q-eq0.w w.0.taken (λ j l H root h. ap (λ (z : ℕ). digit z j) w.2 ∙ w.1.ensures j l H root h))
-    (λ w. part_leaf a.n a.lines.now a.facts.now a.pos.now a.neg.now a.v x.result x.ensures o.i (omega (arith, c.parts-test.true)) q.result q.ensures
-    (set e.values x.result.level u.result) c.if-q-eq0.w w.0.left (within t c.TODO-After-value_at) (w.2 ∙ w.1.ensures))
-    c.if-q-eq0.branch
+part : (t : ℕ) (c : Joined-q-eq0 t)
+    → Within c.args.n (set c.elements.values c.node_at-x.result.level c.value_at.result)
+    → let a = c.args in let x = c.node_at-x in let e = c.elements in IsPart a.n a.lines.now a.facts.now a.pos.now a.neg.now a.v (value_in (set e.values x.result.level c.value_at.result)) c.parts.i c.if-q-eq0.w
+part t c inside =
+    let a = c.args in let x = c.node_at-x in let e = c.elements in let o = c.parts in let q = c.part_at-q in let u = c.value_at in elim c.if-q-eq0.branch [
+      | then-q-eq0 w ↦ part_node a.n a.lines.now a.facts.now a.pos.now a.neg.now a.v x.result x.ensures o.i (omega (arith, c.parts-test.true)) q.result q.ensures
+          (set e.values x.result.level u.result) c.if-q-eq0.w w.if-q-eq0.true (λ j l H root h. ap (λ (z : ℕ). digit z j) w.w-is ∙ w.node_words-w.ensures j l H root h)
+      | else-q-eq0 w ↦ part_leaf a.n a.lines.now a.facts.now a.pos.now a.neg.now a.v x.result x.ensures o.i (omega (arith, c.parts-test.true)) q.result q.ensures
+          (set e.values x.result.level u.result) c.if-q-eq0.w w.if-q-eq0.false inside (w.w-is ∙ w.leaf_words-w.ensures)
+    ]
 
 pub node_at-x-requires : goal.node_at-x-requires
 node_at-x-requires t c = (c.requires.0.whole, c.requires.1)
@@ -118,11 +118,11 @@ parts-preserved t c =
       (skip_on _ _ _ _ c.parts-test.true c.skip-i.ensures).1,
       parts_more a.n a.lines.now a.facts.now a.pos.now a.neg.now a.v
           x.result.kind x.result.level x.result.many (eqb x.result.join 1) (eqb x.result.kind 1) (value_in θ)
-          o.i o.hit c.if-q-eq0.w c.turned-t.result _ _ c.parts-test.true o.invariant.1 (part t (goal.at.parts-preserved t c).Joined-q-eq0) c.turned-t.ensures refl c.skip-i.ensures,
+          o.i o.hit c.if-q-eq0.w c.turned-t.result _ _ c.parts-test.true o.invariant.1 (part t (goal.at.parts-preserved t c).Joined-q-eq0 (within t (goal.at.parts-preserved t c).After-value_at)) c.turned-t.ensures refl c.skip-i.ensures,
       settled_more a.n a.lines.now a.facts.now a.pos.now a.neg.now a.v
           x.result.kind x.result.level x.result.many (eqb x.result.join 1) (eqb x.result.kind 1) x.result.first
           (λ j. still_is a.n a.lines.now (leaf_in a.facts.now a.pos.now a.neg.now a.n j) a.v x.result x.ensures) (value_in θ) (value_in θ) _ (same_value (value_in θ) x.result.level)
-          o.i o.still c.if-q-eq0.w c.turned-t.result c.only-o.result _ c.is_fixed-f.result c.parts-test.true o.invariant.2 (part t (goal.at.parts-preserved t c).Joined-q-eq0) c.turned-t.ensures c.is_fixed-f.ensures c.only-o.ensures refl,
+          o.i o.still c.if-q-eq0.w c.turned-t.result c.only-o.result _ c.is_fixed-f.result c.parts-test.true o.invariant.2 (part t (goal.at.parts-preserved t c).Joined-q-eq0 (within t (goal.at.parts-preserved t c).After-value_at)) c.turned-t.ensures c.is_fixed-f.ensures c.only-o.ensures refl,
     )
 
 pub overflow_add-turn : goal.overflow_add-turn

@@ -20,8 +20,7 @@ pub overflow_add-line : goal.overflow_add-line
 overflow_add-line c = omega (arith, c.loop-i.invariant.1, c.step_lines-many.ensures.1, c.requires.first_bound)
 
 pub returns-then-first-line : goal.returns-then-first-line
-returns-then-first-line c =
-    (
+returns-then-first-line c = (
   omega arith,
   c.loop-i.invariant.1,
   λ h. omega (arith, c.step_lines-many.ensures.1),
@@ -40,8 +39,7 @@ pub loop-i-smaller : goal.loop-i-smaller
 loop-i-smaller c = omega arith
 
 pub loop-i-preserved : goal.loop-i-preserved
-loop-i-preserved c =
-    (
+loop-i-preserved c = (
   omega arith,
   omega arith,
   λ p ls q is N s. before_next ls p _ c.loop-i.i c.loop-i.line c.step_lines-many.result _
@@ -49,8 +47,7 @@ loop-i-preserved c =
 )
 
 pub returns : goal.returns
-returns c =
-    (
+returns c = (
   c.loop-i.invariant.0,
   c.loop-i.invariant.1,
   λ h. absurd (omega arith),

@@ -31,8 +31,7 @@ pub loop-i-smaller : goal.loop-i-smaller
 loop-i-smaller c = omega arith
 
 pub loop-i-preserved : goal.loop-i-preserved
-loop-i-preserved c =
-    (
+loop-i-preserved c = (
   search rules,
   λ p ls is N s. then _ _ (recut (bytes_next ls p _ c.loop-i.i _ (omega arith) refl)
       (c.loop-i.invariant.1 p ls is N s)) (c.step-next.ensures p ls is N s),

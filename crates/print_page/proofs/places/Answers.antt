@@ -26,8 +26,7 @@ pub loop-i-smaller : goal.loop-i-smaller
 loop-i-smaller c = omega arith
 
 pub loop-i-preserved : goal.loop-i-preserved
-loop-i-preserved c =
-    (
+loop-i-preserved c = (
   omega arith,
   simp length-set c.loop-i.invariant.1,
   rest_next c.args.n c.args.count c.loop-i.i c.args.row c.loop-i.rest (omega arith) (omega arith) c.loop-i.invariant.2,
@@ -40,8 +39,7 @@ pub shape_of-values : goal.shape_of-values
 shape_of-values c = c.loop-i.invariant.1
 
 pub returns : goal.returns
-returns c =
-    (
+returns c = (
   places_all c.args.n c.args.count c.loop-i.i c.args.row c.loop-i.values (omega arith) c.loop-i.invariant.3,
   c.loop-i.invariant.4,
 )

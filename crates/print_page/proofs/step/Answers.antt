@@ -24,19 +24,21 @@ pub part_of-part-requires : goal.part_of-part-requires
 part_of-part-requires c = (c.requires.0.fits, c.action_at-a.ensures.0)
 
 pub head-headed-requires : goal.head-headed-requires
-head-headed-requires c =
-    (
-      c.requires.1,
-      (_, c.action_at-a.ensures.0),
-    )
+head-headed-requires c = (
+  c.requires.1,
+  (_, c.action_at-a.ensures.0),
+)
 
 pub units-requires : goal.units-requires
 units-requires c =
-    record { by_index = (
+    record {
+      by_index = (
         _,
         c.requires.2,
         c.elements-count.ensures.2,
-      ); count_in_bounds = omega (arith, c.elements-count.ensures.0) }
+      );
+      count_in_bounds = omega (arith, c.elements-count.ensures.0);
+    }
 
 pub returns-then-is_there : goal.returns-then-is_there
 returns-then-is_there c =

@@ -18,24 +18,25 @@ part_of-part-requires c = (c.requires.0.fits, c.action_at-a.ensures.0)
 
 pub lines-requires : goal.lines-requires
 lines-requires c =
-    record { by_index = (_, c.requires.2, c.elements-count.ensures.2); count_in_bounds = omega
-          (arith, c.elements-count.ensures.0) }
+    record {
+      by_index = (_, c.requires.2, c.elements-count.ensures.2);
+      count_in_bounds = omega
+          (arith, c.elements-count.ensures.0);
+    }
 
 pub returns-then-is_there : goal.returns-then-is_there
-returns-then-is_there c =
-    (
-      (λ p ls question i is N says. c.lines.ensures.0 ∙ ap₂ (λ (q : ℕ) (xs : List ℕ). lines_in 0 (all_units (said_by c.args.site.now c.args.labels.now) q xs)) c.part_of-part.ensures
-          c.elements-count.ensures.1
-          ∙ sym (step_count p c.args.table.now question c.args.names.now c.args.site.now c.args.labels.now ls is N says i c.args.k
-          c.action_at-a.result (c.action_at-a.ensures.1 p is)
-          (sym c.is_there.ensures ∙ c.if-is_there.true))),
-      omega (arith, c.lines.ensures.1, c.elements-count.ensures.0),
-    )
+returns-then-is_there c = (
+  (λ p ls question i is N says. c.lines.ensures.0 ∙ ap₂ (λ (q : ℕ) (xs : List ℕ). lines_in 0 (all_units (said_by c.args.site.now c.args.labels.now) q xs)) c.part_of-part.ensures
+      c.elements-count.ensures.1
+      ∙ sym (step_count p c.args.table.now question c.args.names.now c.args.site.now c.args.labels.now ls is N says i c.args.k
+      c.action_at-a.result (c.action_at-a.ensures.1 p is)
+      (sym c.is_there.ensures ∙ c.if-is_there.true))),
+  omega (arith, c.lines.ensures.1, c.elements-count.ensures.0),
+)
 
 pub returns : goal.returns
-returns c =
-    (
-      (λ p ls question i is N says. sym (ap length (step_none p c.args.table.now question c.args.names.now c.args.site.now c.args.labels.now ls is N says i c.args.k
-          c.action_at-a.result (c.action_at-a.ensures.1 p is) (sym c.is_there.ensures ∙ c.if-is_there.false)))),
-      omega arith,
-    )
+returns c = (
+  (λ p ls question i is N says. sym (ap length (step_none p c.args.table.now question c.args.names.now c.args.site.now c.args.labels.now ls is N says i c.args.k
+      c.action_at-a.result (c.action_at-a.ensures.1 p is) (sym c.is_there.ensures ∙ c.if-is_there.false)))),
+  omega arith,
+)

@@ -1,10 +1,10 @@
 use Prim.Native.Nat.{◌-◌}
 use mathlib.Core.Path.{◌≡◌, sym, ◌∙◌}
-use mathlib.Core.Logic.{⊎_elim}
 use native.Mathlib.Omega.{arith}
 use Rattle.problem_layout.specs.Laid.{range_by}
 use Rattle.problem_layout.specs.RangeLaws.{write_none, write_yes, write_no}
 use Rattle.problem_layout.proofs.fill_members.Goals as goal
+use Rattle.problem_layout.proofs.fill_members.Goals.{then-get, else-get}
 
 pub loop-x-init : goal.loop-x-init
 loop-x-init c = (omega arith, write_none _ _ _, c.requires.3)
@@ -25,9 +25,10 @@ pub loop-x-preserved : goal.loop-x-preserved
 loop-x-preserved c =
     let l = c.loop-x in (
       omega arith,
-      ⊎_elim
-          (λ w. write_yes _ _ _ _ _ _ _ _ l.invariant.1 (sym c.get.ensures ∙ w.0.taken) (omega (arith, c.requires.0)) w.1 w.2)
-          (λ w. write_no _ _ _ _ _ _ _ _ l.invariant.1 (sym c.get.ensures ∙ w.0.left) w.1 w.2) c.if-get.branch,
+      elim c.if-get.branch [
+        | then-get w ↦ write_yes _ _ _ _ _ _ _ _ l.invariant.1 (sym c.get.ensures ∙ w.if-get.true) (omega (arith, c.requires.0)) w.table-is w.i-is
+        | else-get w ↦ write_no _ _ _ _ _ _ _ _ l.invariant.1 (sym c.get.ensures ∙ w.if-get.false) w.table-is w.i-is
+      ],
       l.invariant.2,
     )
 

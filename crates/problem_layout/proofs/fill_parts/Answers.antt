@@ -43,21 +43,20 @@ pub bounds-ranges-wide : goal.bounds-ranges-wide
 bounds-ranges-wide c = omega (arith, sort-small c)
 
 pub part_numbers-line-requires : goal.part_numbers-line-requires
-part_numbers-line-requires c =
-    (
-      c.requires.1,
-      c.requires.2,
-      c.requires.3.parts.part c.loop-i.i,
-      rw c.start_of-start.ensures (start_most _ _ c.requires.4 _ _),
-      c.requires.5.top _,
-    )
+part_numbers-line-requires c = (
+  c.requires.1,
+  c.requires.2,
+  c.requires.3.parts.part c.loop-i.i,
+  rw c.start_of-start.ensures (start_most _ _ c.requires.4 _ _),
+  c.requires.5.top _,
+)
 
 pub loop-i-preserved : goal.loop-i-preserved
 loop-i-preserved c =
     let p = c.part_numbers-line.ensures in let l = c.loop-i in let line = line_from _ _ _ _ _ (get_or c.args.t.parts l.i no_part) _ _ _ _ c.wide.ensures.0
     c.wide-in-loop-i.ensures.0 c.start_of-start.ensures p.0 in (
       omega arith,
-      c.store.auto.0 ∙ l.invariant.1,
+      c.store.auto.table ∙ l.invariant.1,
       part_turn _ c.args.t _ _ _ _ _ c.args.table.now _ l.invariant.5 _ _ (omega arith) line l.invariant.2 c.store.ensures,
       one_more _ _ l.invariant.3 (rw line at p.1),
       l.invariant.4,

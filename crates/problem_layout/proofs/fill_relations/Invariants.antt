@@ -7,7 +7,7 @@ use Rattle.problem_layout.specs.Filled.{relations_place, splice, tab, relation_n
 use Rattle.problem_layout.proofs.fill_relations.Given as goal
 
 abbrev pub invariant-loop-r : goal.invariant-loop-r
-invariant-loop-r l =     (l.r ≤ l.g.count) × (length l.table ≡ length l.initial.table) × (l.table ≡ splice relations_place (tab (relation_numbers l.ranges.count l.g l.l) l.r) l.initial.table)
+invariant-loop-r l = (l.r ≤ l.g.count) × (length l.table ≡ length l.initial.table) × (l.table ≡ splice relations_place (tab (relation_numbers l.ranges.count l.g l.l) l.r) l.initial.table)
     × (l.g.count ≤ 18) × (length l.initial.table ≡ table_length)
 
 abbrev pub decreases-loop-r : goal.decreases-loop-r

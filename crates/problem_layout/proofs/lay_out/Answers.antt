@@ -13,10 +13,9 @@ low c =
     let b = set_bound _ _ c.requires.1 c.requires.2 c.args.ranges.count c.requires.4.count c.args.g.count in
     (omega (arith, r.at_is, c.requires.2.count), omega (arith, r.set_is, c.requires.2.count))
 
-high : (c : After-node_starts-s) → c.node_starts-s.result.at ≤ 2 ^ 40
-high c =
-    let e = c.node_starts-s.ensures in let q = low c.TODO-After-relation_starts-r in
-    let a = node_bound _ c.args.ranges.count _ c.relation_starts-r.result.at (c.relation_starts-r.result.sets + 1) c.requires.1 c.requires.4.count c.requires.3 c.args.t.count in
+high : (c : After-node_starts-s) → let r = c.relation_starts-r.result in (r.at ≤ 2 ^ 30) × (r.sets < 2 ^ 30) → c.node_starts-s.result.at ≤ 2 ^ 40
+high c q =
+    let e = c.node_starts-s.ensures in let a = node_bound _ c.args.ranges.count _ c.relation_starts-r.result.at (c.relation_starts-r.result.sets + 1) c.requires.1 c.requires.4.count c.requires.3 c.args.t.count in
     omega (arith, e.at_is, c.requires.3.few)
 
 pub overflow_add-first : goal.overflow_add-first
@@ -26,7 +25,7 @@ pub node_starts-s-requires : goal.node_starts-s-requires
 node_starts-s-requires c = let q = low (goal.at.node_starts-s-requires c).After-relation_starts-r in (c.requires.0, c.requires.1, c.requires.3, omega arith, omega arith, c.requires.4)
 
 pub last_starts-e-requires : goal.last_starts-e-requires
-last_starts-e-requires c = (c.requires.0, c.requires.1, c.requires.2, high c)
+last_starts-e-requires c = (c.requires.0, c.requires.1, c.requires.2, (high (goal.at.last_starts-e-requires c).After-node_starts-s (low (goal.at.last_starts-e-requires c).After-relation_starts-r)))
 
 pub returns : goal.returns
 returns c =

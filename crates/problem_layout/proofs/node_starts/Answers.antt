@@ -11,8 +11,8 @@ use Rattle.problem_layout.proofs.node_starts.Goals as goal
 use Rattle.problem_layout.proofs.node_starts.Goals.{After-choices, After-node_width-at, After-power-rows, After-wide-in-loop-v, In-loop-v}
 
 -- the row of the node where the loop stands
-abbrev row : tie.In-loop invariant-loop decreases-loop → NodeRow
-row c = get_or c.before.before.args.t3.rows c.before.loop.v no_node
+abbrev row : In-loop-v → NodeRow
+row c = get_or c.args.t.rows c.loop-v.v no_node
 
 -- what is known of the sums so far
 low : (c : In-loop-v) → let l = c.loop-v in (l.at ≤ 2 ^ 40) × (l.acts ≤ 2 ^ 40)
@@ -23,7 +23,7 @@ low c =
 
 -- how many values its free variables have
 rows_are : (c : After-power-rows)
-    → c.power-rows.result ≡ c.args.n ^ (row c.TODO-In-loop-v).width
+    → c.power-rows.result ≡ c.args.n ^ (get_or c.args.t.rows c.loop-v.v no_node).width
 rows_are c = c.power-rows.ensures ∙ ap (λ (k : ℕ). c.args.n ^ k) c.wide.ensures.0
 
 rows-small : (c : After-power-rows) → c.power-rows.result ≤ 64 ^ 4
@@ -42,13 +42,13 @@ row-choices c =
     c.choices.ensures ∙ choices_at_lem c.args.ranges.count c.wide-in-loop-v.ensures.0
     c.wide-kind.ensures.0 c.wide-in-loop-v-2.ensures.0
 
-acts_small : (c : After-choices) → c.power-rows.result * c.choices.result ≤ 64 ^ 4 * 64
-acts_small c =
-    acts_le _ c.args.ranges.count _ c.args.from c.args.first c.requires.1 c.requires.5.count c.requires.2 _ _ _ (rows_are c.TODO-After-power-rows) (row-choices c)
+acts_small : (c : After-choices) → c.power-rows.result ≡ c.args.n ^ (get_or c.args.t.rows c.loop-v.v no_node).width → c.power-rows.result * c.choices.result ≤ 64 ^ 4 * 64
+acts_small c p =
+    acts_le _ c.args.ranges.count _ c.args.from c.args.first c.requires.1 c.requires.5.count c.requires.2 _ _ _ p (row-choices c)
 
 -- how many atoms it has
 row-width : (c : After-node_width-at)
-    → c.node_width-at.result ≡ node_width c.args.n c.power-rows.result (row c.TODO-In-loop-v).kind
+    → c.node_width-at.result ≡ node_width c.args.n c.power-rows.result (get_or c.args.t.rows c.loop-v.v no_node).kind
 row-width c = c.node_width-at.ensures ∙ ap (node_width _ _) c.wide-kind.ensures.0
 
 pub bounds-node-0 : goal.bounds-node-0
@@ -76,10 +76,10 @@ pub bounds-ranges-wide : goal.bounds-ranges-wide
 bounds-ranges-wide c = omega (arith, sort-small c)
 
 pub overflow_mul-acts : goal.overflow_mul-acts
-overflow_mul-acts c = omega (arith, acts_small c)
+overflow_mul-acts c = omega (arith, acts_small (goal.at.overflow_mul-acts c).After-choices (rows_are (goal.at.overflow_mul-acts c).After-power-rows))
 
 pub overflow_add-acts : goal.overflow_add-acts
-overflow_add-acts c = omega (arith, low (goal.at.overflow_add-acts c).In-loop-v, acts_small c)
+overflow_add-acts c = omega (arith, low (goal.at.overflow_add-acts c).In-loop-v, acts_small (goal.at.overflow_add-acts c).After-choices (rows_are (goal.at.overflow_add-acts c).After-power-rows))
 
 pub loop-v-preserved : goal.loop-v-preserved
 loop-v-preserved c =

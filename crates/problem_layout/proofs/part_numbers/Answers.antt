@@ -18,7 +18,7 @@ module _ (c : After-weights-w) where
   times i = weight_times _ _ (c.weights-w.ensures.1 i) c.requires.1
 
 pub weights-w-requires : goal.weights-w-requires
-weights-w-requires c = (search rules, search rules)
+weights-w-requires c = record { n_nonzero = search rules; levels = search rules }
 
 pub overflow_add-result : goal.overflow_add-result
 overflow_add-result c = let q = c.requires in omega (arith, q.1, q.3, q.4)

@@ -1,10 +1,10 @@
 use Prim.Native.Nat.{◌-◌}
 use mathlib.Core.Path.{◌≡◌, sym, ◌∙◌}
-use mathlib.Core.Logic.{⊎_elim}
 use native.Mathlib.Omega.{arith}
 use Rattle.problem_layout.specs.Laid.{range_by}
 use Rattle.problem_layout.specs.RangeLaws.{count_none, count_yes, count_no}
 use Rattle.problem_layout.proofs.range_of.Goals as goal
+use Rattle.problem_layout.proofs.range_of.Goals.{then-get, else-get}
 
 pub loop-x-init : goal.loop-x-init
 loop-x-init c = (omega arith, count_none _ _ c.requires.0, c.requires.3)
@@ -25,9 +25,10 @@ pub loop-x-preserved : goal.loop-x-preserved
 loop-x-preserved c =
     let l = c.loop-x in (
       omega arith,
-      ⊎_elim
-          (λ w. count_yes _ _ _ _ _ _ _ l.invariant.1 (omega arith) (sym c.get.ensures ∙ w.0.taken) w.1 w.2)
-          (λ w. count_no _ _ _ _ _ _ _ l.invariant.1 (sym c.get.ensures ∙ w.0.left) w.1 w.2) c.if-get.branch,
+      elim c.if-get.branch [
+        | then-get w ↦ count_yes _ _ _ _ _ _ _ l.invariant.1 (omega arith) (sym c.get.ensures ∙ w.if-get.true) w.count-is w.top-is
+        | else-get w ↦ count_no _ _ _ _ _ _ _ l.invariant.1 (sym c.get.ensures ∙ w.if-get.false) w.count-is w.top-is
+      ],
       l.invariant.2,
     )
 

@@ -6,7 +6,7 @@ use Rattle.problem_layout.specs.RangeLaws.{CountedTo}
 use Rattle.problem_layout.proofs.ranges_of.Given as goal
 
 abbrev pub invariant-loop-k : goal.invariant-loop-k
-invariant-loop-k l =     (l.k ≤ l.types) × (length l.count ≡ 9) × (length l.top ≡ 9) × CountedTo l.n l.members l.k l.count l.top × (l.types ≤ 8)
+invariant-loop-k l = (l.k ≤ l.types) × (length l.count ≡ 9) × (length l.top ≡ 9) × CountedTo l.n l.members l.k l.count l.top × (l.types ≤ 8)
 
 abbrev pub decreases-loop-k : goal.decreases-loop-k
 decreases-loop-k l = l.types - l.k

@@ -12,28 +12,28 @@ use Rattle.problem_mentions.proofs.allowance.Goals as goal
 use Rattle.problem_mentions.proofs.allowance.Goals.{After-node_width, After-power-rows, In-nodes, In-parts}
 
 -- the node that is looked at
-abbrev node : tie.In-nodes invariant-parts decreases-parts invariant-nodes decreases-nodes → ℕ
-node c = c.before.before.args.t2.count - (c.before.nodes.done + 1)
+abbrev node : In-nodes → ℕ
+node c = c.args.t.count - (c.nodes.done + 1)
 
 -- its part that is looked at is one of the table's
 part_there : (c : In-parts) → c.wide-first.result + c.parts.k < 64
 part_there c =
-    omega (arith, c.wide-first.ensures.0, c.wide-many.ensures.0, c.requires.2.few_parts, (c.requires.2.nodes.node (node c.TODO-In-nodes)).parts)
+    omega (arith, c.wide-first.ensures.0, c.wide-many.ensures.0, c.requires.2.few_parts, (c.requires.2.nodes.node (c.args.t.count - (c.nodes.done + 1))).parts)
 
 -- how many values its free variables have, and how many atoms it has
-rows_are : (c : After-power-rows) → c.power-rows.result ≡ c.args.n ^ (get_or c.args.t.rows (node c.TODO-In-nodes) no_node).width
+rows_are : (c : After-power-rows) → c.power-rows.result ≡ c.args.n ^ (get_or c.args.t.rows (c.args.t.count - (c.nodes.done + 1)) no_node).width
 rows_are c = c.power-rows.ensures ∙ ap (λ (k : ℕ). c.args.n ^ k) c.wide.ensures.0
 
 rows-small : (c : After-power-rows) → c.power-rows.result ≤ 64 ^ 4
 rows-small c =
-    size_most c.args.n (get_or c.args.t.rows (node c.TODO-In-nodes) no_node).width c.power-rows.result (rows_are c) c.requires.1 (c.requires.2.nodes.node (node c.TODO-In-nodes)).width
+    size_most c.args.n (get_or c.args.t.rows (c.args.t.count - (c.nodes.done + 1)) no_node).width c.power-rows.result (rows_are c) c.requires.1 (c.requires.2.nodes.node (c.args.t.count - (c.nodes.done + 1))).width
 
-row-width : (c : After-node_width) → c.node_width.result ≡ row_width c.args.n c.args.t (node c.TODO-In-nodes)
-row-width c = c.node_width.ensures ∙ ap₂ (node_width c.args.n) (rows_are c.TODO-After-power-rows) c.wide-kind.ensures.0
+row-width : (c : After-node_width) → c.power-rows.result ≡ c.args.n ^ (get_or c.args.t.rows (c.args.t.count - (c.nodes.done + 1)) no_node).width → c.node_width.result ≡ row_width c.args.n c.args.t (c.args.t.count - (c.nodes.done + 1))
+row-width c rows = c.node_width.ensures ∙ ap₂ (node_width c.args.n) rows c.wide-kind.ensures.0
 
-width_small : (c : After-node_width) → c.node_width.result ≤ 64 ^ 4 * 64
-width_small c =
-    let w = node_width_le c.args.n c.power-rows.result c.wide-kind.result c.requires.1 (rows-small c.TODO-After-power-rows) in
+width_small : (c : After-node_width) → c.power-rows.result ≤ 64 ^ 4 → c.node_width.result ≤ 64 ^ 4 * 64
+width_small c small =
+    let w = node_width_le c.args.n c.power-rows.result c.wide-kind.result c.requires.1 small in
     omega (arith, c.node_width.ensures)
 
 pub nodes-init : goal.nodes-init
@@ -73,12 +73,11 @@ pub parts-smaller : goal.parts-smaller
 parts-smaller c = omega arith
 
 pub parts-preserved : goal.parts-preserved
-parts-preserved c =
-    (
-      omega arith,
-      hits_next c.args.t.parts c.nodes.marks c.args.r c.wide-first.result
-          c.parts.k c.wide-which.result c.parts.hit c.found-hit.result c.parts.invariant.1 c.wide-which.ensures.0 c.found-hit.ensures,
-    )
+parts-preserved c = (
+  omega arith,
+  hits_next c.args.t.parts c.nodes.marks c.args.r c.wide-first.result
+      c.parts.k c.wide-which.result c.parts.hit c.found-hit.result c.parts.invariant.1 c.wide-which.ensures.0 c.found-hit.ensures,
+)
 
 pub bounds-marks-v : goal.bounds-marks-v
 bounds-marks-v c = omega (arith, c.requires.2.few)
@@ -97,7 +96,7 @@ overflow_add-total c =
       atoms_bound c.args.n c.args.t c.args.r c.requires.1 c.requires.2 c.nodes.done,
       c.requires.2.few,
       counted_le c.args.n c.args.t c.args.r c.parts.hit c.node_width.result c.counted-total.result c.counted-total.ensures,
-      width_small (goal.at.overflow_add-total c).After-node_width,
+      width_small (goal.at.overflow_add-total c).After-node_width (rows-small (goal.at.overflow_add-total c).After-power-rows),
     )
 
 pub nodes-smaller : goal.nodes-smaller
@@ -111,7 +110,7 @@ nodes-preserved c =
       few,
       marks_next c.args.t c.args.r c.nodes.done (node (goal.at.nodes-preserved c).In-nodes) c.wide-first.result c.wide-many.result c.nodes.marks c.parts.hit refl c.wide-first.ensures.0 c.wide-many.ensures.0 c.nodes.invariant.1 h,
       atoms_next c.args.n c.args.t c.args.r c.nodes.done (node (goal.at.nodes-preserved c).In-nodes) c.wide-first.result c.wide-many.result c.nodes.total c.node_width.result c.counted-total.result
-          c.nodes.marks c.parts.hit refl c.wide-first.ensures.0 c.wide-many.ensures.0 c.nodes.invariant.1 h (row-width (goal.at.nodes-preserved c).After-node_width) c.counted-total.ensures c.nodes.invariant.2,
+          c.nodes.marks c.parts.hit refl c.wide-first.ensures.0 c.wide-many.ensures.0 c.nodes.invariant.1 h (row-width (goal.at.nodes-preserved c).After-node_width (rows_are (goal.at.nodes-preserved c).After-power-rows)) c.counted-total.ensures c.nodes.invariant.2,
     )
 
 pub returns : goal.returns

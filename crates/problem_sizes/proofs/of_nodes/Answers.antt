@@ -3,17 +3,12 @@ use mathlib.Core.Path.{◌≡◌, ap, ◌∙◌, subst}
 use native.Mathlib.Omega.{arith}
 use lib.ListN.{get_or}
 use Rattle.rule_nodes.specs.Tables.{no_node}
-use Rattle.rule_nodes.specs.declared.NodeRow.{NodeRow}
 use Rattle.problem_layout.specs.Laid.{node_width, choices_at}
 use Rattle.problem_layout.specs.LaidLaws.{choices_at_lem, acts_le, node_width_le, pow_fits, size_most}
 use Rattle.problem_sizes.specs.Sums.{NodesSummed}
 use Rattle.problem_sizes.specs.SumLaws.{nodes_first, nodes_next, node_counts}
 use Rattle.problem_sizes.proofs.of_nodes.Goals as goal
-use Rattle.problem_sizes.proofs.of_nodes.Goals.{After-choices, After-node_width-atoms, After-power-rows, After-wide-in-loop-nodes, At-loop-nodes, In-loop-nodes}
-
--- the row of the node where the loop stands
-abbrev row : tie.In-loop invariant-loop decreases-loop → NodeRow
-row c = get_or c.before.before.args.t3.rows c.before.loop.nodes no_node
+use Rattle.problem_sizes.proofs.of_nodes.Goals.{After-choices, After-node_width-atoms, After-power-rows, After-wide-in-loop-nodes, At-loop-nodes}
 
 -- the counts so far
 counts-small : (c : At-loop-nodes) → (c.loop-nodes.atoms ≤ 2 ^ 36) × (c.loop-nodes.actions ≤ 2 ^ 36)
@@ -21,21 +16,21 @@ counts-small c = node_counts c.args.n c.requires.1 c.args.ranges.count c.args.t 
     c.loop-nodes.nodes c.loop-nodes.nodes c.loop-nodes.atoms c.loop-nodes.actions c.loop-nodes.invariant.0 c.loop-nodes.invariant.1
 
 -- how many values its free variables have
-rows_are : (c : After-power-rows) → c.power-rows.result ≡ c.args.n ^ (row c.TODO-In-loop-nodes).width
+rows_are : (c : After-power-rows) → c.power-rows.result ≡ c.args.n ^ (get_or c.args.t.rows c.loop-nodes.nodes no_node).width
 rows_are c = c.power-rows.ensures ∙ ap (λ (k : ℕ). c.args.n ^ k) c.wide.ensures.0
 
 rows-small : (c : After-power-rows) → c.power-rows.result ≤ 64 ^ 4
 rows-small c =
-    let v = c.loop-nodes.nodes in size_most c.args.n (row c.TODO-In-loop-nodes).width c.power-rows.result (rows_are c) c.requires.1 (c.requires.2.nodes.node v).width
+    let v = c.loop-nodes.nodes in size_most c.args.n (get_or c.args.t.rows c.loop-nodes.nodes no_node).width c.power-rows.result (rows_are c) c.requires.1 (c.requires.2.nodes.node v).width
 
 -- how many atoms it has
 row-width : (c : After-node_width-atoms)
-    → c.node_width-atoms.result ≡ node_width c.args.n c.power-rows.result (row c.TODO-In-loop-nodes).kind
+    → c.node_width-atoms.result ≡ node_width c.args.n c.power-rows.result (get_or c.args.t.rows c.loop-nodes.nodes no_node).kind
 row-width c = c.node_width-atoms.ensures ∙ ap (node_width c.args.n c.power-rows.result) c.wide-kind.ensures.0
 
-width_small : (c : After-node_width-atoms) → c.node_width-atoms.result ≤ 64 ^ 4 * 64
-width_small c =
-    let w = node_width_le c.args.n c.power-rows.result (row c.TODO-In-loop-nodes).kind c.requires.1 (rows-small c.TODO-After-power-rows) in
+width_small : (c : After-node_width-atoms) → c.power-rows.result ≤ 64 ^ 4 → c.node_width-atoms.result ≤ 64 ^ 4 * 64
+width_small c small =
+    let w = node_width_le c.args.n c.power-rows.result (get_or c.args.t.rows c.loop-nodes.nodes no_node).kind c.requires.1 small in
     omega (arith, row-width c)
 
 -- its sort is one of nine
@@ -50,9 +45,9 @@ row-choices : (c : After-choices) → c.choices.result
 row-choices c =
     c.choices.ensures ∙ choices_at_lem c.args.ranges.count c.wide-in-loop-nodes.ensures.0 c.wide-kind.ensures.0 c.wide-in-loop-nodes-2.ensures.0
 
-acts_small : (c : After-choices) → c.power-rows.result * c.choices.result ≤ 64 ^ 4 * 64
-acts_small c =
-    acts_le c.args.n c.args.ranges.count c.args.t 0 0 c.requires.1 c.requires.3.count c.requires.2 c.loop-nodes.nodes c.power-rows.result c.choices.result (rows_are (c.TODO-After-power-rows)) (row-choices c)
+acts_small : (c : After-choices) → c.power-rows.result ≡ c.args.n ^ (get_or c.args.t.rows c.loop-nodes.nodes no_node).width → c.power-rows.result * c.choices.result ≤ 64 ^ 4 * 64
+acts_small c rows =
+    acts_le c.args.n c.args.ranges.count c.args.t 0 0 c.requires.1 c.requires.3.count c.requires.2 c.loop-nodes.nodes c.power-rows.result c.choices.result rows (row-choices c)
 
 -- one node more is still one of 64
 few : (c : After-choices) → c.loop-nodes.nodes < 64
@@ -74,7 +69,7 @@ pub node_width-atoms-requires : goal.node_width-atoms-requires
 node_width-atoms-requires c = (c.requires.1, rows-small c)
 
 pub overflow_add-atoms : goal.overflow_add-atoms
-overflow_add-atoms c = omega (arith, (counts-small (goal.at.overflow_add-atoms c).At-loop-nodes).0, width_small c)
+overflow_add-atoms c = omega (arith, (counts-small (goal.at.overflow_add-atoms c).At-loop-nodes).0, width_small (goal.at.overflow_add-atoms c).After-node_width-atoms (rows-small (goal.at.overflow_add-atoms c).After-power-rows))
 
 pub offset_bounds-ranges-wide : goal.offset_bounds-ranges-wide
 offset_bounds-ranges-wide c = omega (arith, sort-small c)
@@ -83,10 +78,10 @@ pub bounds-ranges-wide : goal.bounds-ranges-wide
 bounds-ranges-wide c = omega (arith, sort-small c)
 
 pub overflow_mul-actions : goal.overflow_mul-actions
-overflow_mul-actions c = omega (arith, acts_small c)
+overflow_mul-actions c = omega (arith, acts_small (goal.at.overflow_mul-actions c).After-choices (rows_are (goal.at.overflow_mul-actions c).After-power-rows))
 
 pub overflow_add-actions : goal.overflow_add-actions
-overflow_add-actions c = omega (arith, (counts-small (goal.at.overflow_add-actions c).At-loop-nodes).1, acts_small c)
+overflow_add-actions c = omega (arith, (counts-small (goal.at.overflow_add-actions c).At-loop-nodes).1, acts_small (goal.at.overflow_add-actions c).After-choices (rows_are (goal.at.overflow_add-actions c).After-power-rows))
 
 pub overflow_add-nodes : goal.overflow_add-nodes
 overflow_add-nodes c = omega (arith, few c)

@@ -11,8 +11,8 @@ use Rattle.problem_window.proofs.of_tables.Goals as goal
 use Rattle.problem_window.proofs.of_tables.Goals.{At-nodes, In-nodes}
 
 -- the node that is looked at
-abbrev node : tie.In-nodes invariant-parts decreases-parts invariant-nodes decreases-nodes → ℕ
-node c = c.before.before.args.t3.count - (c.before.nodes.done + 1)
+abbrev node : In-nodes → ℕ
+node c = c.args.t.count - (c.nodes.done + 1)
 
 -- no number that is known is large
 lows-there : (c : At-nodes) (i : ℕ) → get_or c.nodes.lows i 0 ≤ 4096
@@ -34,69 +34,66 @@ parts-init c = (omega arith, least_none _ _ _, greatest_none _ _ _, greatest_non
 pub bounds-t-first : goal.bounds-t-first
 bounds-t-first c =
     omega (
-  arith,
-  c.wide-first.ensures.0,
-  c.wide-many.ensures.0,
-  c.requires.0.few_parts,
-  (c.requires.0.nodes.node (node (goal.at.bounds-t-first c).In-nodes)).parts,
-)
+      arith,
+      c.wide-first.ensures.0,
+      c.wide-many.ensures.0,
+      c.requires.0.few_parts,
+      (c.requires.0.nodes.node (node (goal.at.bounds-t-first c).In-nodes)).parts,
+    )
 
 pub bounds-lows-which : goal.bounds-lows-which
 bounds-lows-which c =
     omega (
-  arith,
-  c.wide-which.ensures.0,
-  which_small _ (c.requires.0.parts.part
-      (c.wide-first.result + c.parts.k)),
-)
+      arith,
+      c.wide-which.ensures.0,
+      which_small _ (c.requires.0.parts.part
+          (c.wide-first.result + c.parts.k)),
+    )
 
 pub bounds-highs-which : goal.bounds-highs-which
 bounds-highs-which c =
     omega (
-  arith,
-  c.wide-which.ensures.0,
-  which_small _ (c.requires.0.parts.part
-      (c.wide-first.result + c.parts.k)),
-)
+      arith,
+      c.wide-which.ensures.0,
+      which_small _ (c.requires.0.parts.part
+          (c.wide-first.result + c.parts.k)),
+    )
 
 pub parts-preserved : goal.parts-preserved
-parts-preserved c =
-    (
-      omega arith,
-      least_next c.args.t.parts c.nodes.lows c.wide-first.result c.parts.k c.wide-which.result
-          c.part_gives-x.result c.parts.least c.lesser-least.result c.parts.invariant.1
-          c.wide-which.ensures.0 c.part_gives-x.ensures c.lesser-least.ensures,
-      greatest_next c.args.t.parts c.nodes.lows c.wide-first.result c.parts.k c.wide-which.result
-          c.part_gives-x.result c.parts.low c.greater-low.result c.parts.invariant.2 c.wide-which.ensures.0
-          c.part_gives-x.ensures c.greater-low.ensures,
-      greatest_next c.args.t.parts c.nodes.highs c.wide-first.result c.parts.k c.wide-which.result c.part_gives-y.result
-          c.parts.high c.greater-high.result c.parts.invariant.3 c.wide-which.ensures.0 c.part_gives-y.ensures
-          c.greater-high.ensures,
-    )
+parts-preserved c = (
+  omega arith,
+  least_next c.args.t.parts c.nodes.lows c.wide-first.result c.parts.k c.wide-which.result
+      c.part_gives-x.result c.parts.least c.lesser-least.result c.parts.invariant.1
+      c.wide-which.ensures.0 c.part_gives-x.ensures c.lesser-least.ensures,
+  greatest_next c.args.t.parts c.nodes.lows c.wide-first.result c.parts.k c.wide-which.result
+      c.part_gives-x.result c.parts.low c.greater-low.result c.parts.invariant.2 c.wide-which.ensures.0
+      c.part_gives-x.ensures c.greater-low.ensures,
+  greatest_next c.args.t.parts c.nodes.highs c.wide-first.result c.parts.k c.wide-which.result c.part_gives-y.result
+      c.parts.high c.greater-high.result c.parts.invariant.3 c.wide-which.ensures.0 c.part_gives-y.ensures
+      c.greater-high.ensures,
+)
 
 pub bounds-ranges-sort : goal.bounds-ranges-sort
 bounds-ranges-sort c =
     omega (
-  arith,
-  c.wide-sort.ensures.0,
-  (c.requires.0.nodes.node
-      (node (goal.at.bounds-ranges-sort c).In-nodes)).sort,
-)
+      arith,
+      c.wide-sort.ensures.0,
+      (c.requires.0.nodes.node
+          (node (goal.at.bounds-ranges-sort c).In-nodes)).sort,
+    )
 
 pub node_lower-a-requires : goal.node_lower-a-requires
-node_lower-a-requires c =
-    (
-      c.requires.1.count c.wide-sort.result,
-      omega (arith, c.parts.invariant.1, least_most c.args.t.parts c.nodes.lows c.wide-first.result 4096 c.parts.k (lows-there (goal.at.node_lower-a-requires c).At-nodes)),
-      omega (arith, c.parts.invariant.2, greatest_most c.args.t.parts c.nodes.lows c.wide-first.result 4096 c.parts.k (lows-there (goal.at.node_lower-a-requires c).At-nodes)),
-    )
+node_lower-a-requires c = (
+  c.requires.1.count c.wide-sort.result,
+  omega (arith, c.parts.invariant.1, least_most c.args.t.parts c.nodes.lows c.wide-first.result 4096 c.parts.k (lows-there (goal.at.node_lower-a-requires c).At-nodes)),
+  omega (arith, c.parts.invariant.2, greatest_most c.args.t.parts c.nodes.lows c.wide-first.result 4096 c.parts.k (lows-there (goal.at.node_lower-a-requires c).At-nodes)),
+)
 
 pub node_upper-b-requires : goal.node_upper-b-requires
-node_upper-b-requires c =
-    (
-      c.requires.1.count c.wide-sort.result,
-      omega (arith, c.parts.invariant.3, greatest_most c.args.t.parts c.nodes.highs c.wide-first.result 4096 c.parts.k (highs-there (goal.at.node_upper-b-requires c).At-nodes)),
-    )
+node_upper-b-requires c = (
+  c.requires.1.count c.wide-sort.result,
+  omega (arith, c.parts.invariant.3, greatest_most c.args.t.parts c.nodes.highs c.wide-first.result 4096 c.parts.k (highs-there (goal.at.node_upper-b-requires c).At-nodes)),
+)
 
 pub nodes-preserved : goal.nodes-preserved
 nodes-preserved c =

@@ -12,11 +12,11 @@ use Rattle.read_rule.specs.declared.Kind.{Kind as Form}
 use Rattle.read_rule.specs.declared.Kind.TheVariants.{Not, Implies, And, Or, Exists, Forall, Other}
 use Rattle.read_rule.specs.Seen.{head_of, seen, facts}
 use Rattle.read_rule.specs.Steps.{room, neg_bad, neg_ok, imp_bad, imp_gap, imp_bad_2, imp_ok, join_bad, join_bad_2, join_ok, parts_full, parts_bad, parts_turn, parts_stop_at, quant_bad, quant_bad_2, quant_gap, quant_bad_3, read_none}
-use Rattle.read_rule.specs.Turns.{after, turn_first, turn_bad, turn_last}
+use Rattle.read_rule.specs.Turns.{turn_first, turn_bad, turn_last}
 use Rattle.read_rule.specs.Bound.{few}
 use Rattle.read_rule.proofs.Rounds.{Part, found, found_parts, one_fits, two_fit, past_space, turn, Listed, found_typed, found_list, past_list, quant_fits, quant_done, past_word, rest_of, word_in, read_after}
 use Rattle.read_rule.proofs.+bound_implied_joined_negated_parts_scan.Goals as goal
-use Rattle.read_rule.proofs.+bound_implied_joined_negated_parts_scan.Goals.{bound-After-starts-arg-1, bound-In-Ok-vs, bound-Then-starts, implied-In-Ok, implied-Then-starts, joined-In-Ok, negated-In-Ok, parts-In-Ok, parts-In-loop-sc, scan-After-kind_at-k}
+use Rattle.read_rule.proofs.+bound_implied_joined_negated_parts_scan.Goals.{bound-In-Ok-vs, bound-Then-starts, implied-In-Ok, implied-Then-starts, joined-In-Ok, negated-In-Ok, parts-In-Ok, parts-In-loop-sc, scan-After-kind_at-k}
 
 -- a quantifier's list
 bound-list : (t : ℕ) (c : bound-In-Ok-vs t) → let a = c.args in Listed (types_in a.s.now a.from.now a.to.now 8) a.s.now a.at c.in-Ok.a c.in-Ok-vs.b
@@ -57,11 +57,9 @@ module _ (t : ℕ) (c : parts-In-loop-sc t) where
   parts-inside : c.loop-sc.i + 1 ≤ length c.args.s.now
   parts-inside = room (32 ∷ []) c.args.s.now _ c.loop-sc.invariant.0 parts-space
 
-parts-one : (t : ℕ) (c : parts-In-Ok t)
+parts-one : (t : ℕ) (c : parts-In-Ok t) → c.loop-sc.i + 1 ≤ length c.args.s.now
     → let a = c.args in Part a.s.now a.from.now a.to.now a.arity.now a.m a.sc a.room (c.loop-sc.i + 1) c.in-Ok.next c.in-Ok.g
-parts-one t c =
-    found _ _ _ c.args.s.now _
-    (parts-inside t c.TODO-In-loop-sc) c.in-Ok.is c.scan-f.ensures
+parts-one t c in-text = found _ _ _ c.args.s.now _ in-text c.in-Ok.is c.scan-f.ensures
 
 -- the form's word is in the text, and what its function reads after it is the formula
 module _ (t : ℕ) (c : scan-After-kind_at-k t) (k : Form) (told : c.kind_at-k.result ≡ k) where
@@ -70,8 +68,8 @@ module _ (t : ℕ) (c : scan-After-kind_at-k t) (k : Form) (told : c.kind_at-k.r
       let word = word_in k told c.args.s.now c.args.at c.kind_at-k.ensures c.requires.0 in
       (omega (arith, c.decreases, c.if-room-eq0.false), (word, c.requires.1, c.requires.2))
 
-  scan-as : (rs : List Relation) (types sc : List (List ℕ)) → let a = c.args in let s = a.s.now in seen (facts rs types sc) (length c.TODO-Start) (rest_of (read (a.room - 1)) (head_of k) (drop (past_word (head_of k) a.at) c.TODO-Start))
-      ≡ seen (facts rs types sc) (length c.TODO-Start) (read a.room (drop a.at c.TODO-Start))
+  scan-as : (rs : List Relation) (types sc : List (List ℕ)) → let a = c.args in let s = a.s.now in seen (facts rs types sc) (length s) (rest_of (read (a.room - 1)) (head_of k) (drop (past_word (head_of k) a.at) s))
+      ≡ seen (facts rs types sc) (length s) (read a.room (drop a.at s))
   scan-as rs types sc =
       let a = c.args in read_after k told a.s.now a.at c.kind_at-k.ensures rs types sc _ c.if-room-eq0.false
 
@@ -82,23 +80,23 @@ pub bound-typed_vars-vs-requires : goal.bound-typed_vars-vs-requires
 bound-typed_vars-vs-requires t c = (found_typed _ c.args.s.now c.requires.0 c.in-Ok.is c.typed_at-v.ensures).within
 
 pub bound-starts-requires : goal.bound-starts-requires
-bound-starts-requires t c = (bound-list t (goal.at.bound-starts-requires t c).After-starts-arg-1).others.within
+bound-starts-requires t c = (bound-list t (goal.at.bound-starts-requires t c).In-Ok-vs).others.within
 
 pub bound-both-list-requires : goal.bound-both-list-requires
-bound-both-list-requires t c = let l = bound-list t (goal.at.bound-both-list-requires t c).After-starts-arg-1 in omega (arith, (two_fit l.one l.others c.well_formed.0.1).1)
+bound-both-list-requires t c = let l = bound-list t (goal.at.bound-both-list-requires t c).In-Ok-vs in omega (arith, (two_fit l.one l.others c.well_formed.0.1).1)
 
 pub bound-grow-g-requires : goal.bound-grow-g-requires
 bound-grow-g-requires t c = c.requires.2
 
 pub bound-overflow_add-b : goal.bound-overflow_add-b
-bound-overflow_add-b t c = omega (arith, past_list (bound-list t (goal.at.bound-overflow_add-b t c).After-starts-arg-1) (bound-stop t (goal.at.bound-overflow_add-b t c).Then-starts), c.well_formed.0.0)
+bound-overflow_add-b t c = omega (arith, past_list (bound-list t (goal.at.bound-overflow_add-b t c).In-Ok-vs) (bound-stop t (goal.at.bound-overflow_add-b t c).Then-starts), c.well_formed.0.0)
 
 pub bound-scan-f-requires : goal.bound-scan-f-requires
-bound-scan-f-requires t c = (omega (arith, c.decreases), (past_list (bound-list t (goal.at.bound-scan-f-requires t c).After-starts-arg-1) (bound-stop t (goal.at.bound-scan-f-requires t c).Then-starts), c.requires.1, c.grow-g.ensures.small))
+bound-scan-f-requires t c = (omega (arith, c.decreases), (past_list (bound-list t (goal.at.bound-scan-f-requires t c).In-Ok-vs) (bound-stop t (goal.at.bound-scan-f-requires t c).Then-starts), c.requires.1, c.grow-g.ensures.small))
 
 pub bound-shut_quant-requires : goal.bound-shut_quant-requires
 bound-shut_quant-requires t c =
-    let l = bound-list t (goal.at.bound-shut_quant-requires t c).After-starts-arg-1 in
+    let l = bound-list t (goal.at.bound-shut_quant-requires t c).In-Ok-vs in
     let f = found _ _ _ c.args.s.now _ (past_list l (bound-stop t (goal.at.bound-shut_quant-requires t c).Then-starts)) c.in-Ok-f.is c.scan-f.ensures in
     quant_fits l c.both-list.ensures f c.well_formed.0.1
 
@@ -112,18 +110,18 @@ bound-returns-in-Bad-vs t c =
 
 pub bound-returns-in-Bad-f : goal.bound-returns-in-Bad-f
 bound-returns-in-Bad-f t c =
-    λ q. let l = bound-list t (goal.at.bound-returns-in-Bad-f t c).After-starts-arg-1 in
+    λ q. let l = bound-list t (goal.at.bound-returns-in-Bad-f t c).In-Ok-vs in
     quant_bad_3 _ _ _ _ _ _ q _ _ l.one _ _ l.others _ (bound-stop t (goal.at.bound-returns-in-Bad-f t c).Then-starts) (sym c.in-Bad-f.is ∙ c.scan-f.ensures)
 
 pub bound-returns-in-Ok-f : goal.bound-returns-in-Ok-f
 bound-returns-in-Ok-f t c =
-    λ q. let l = bound-list t (goal.at.bound-returns-in-Ok-f t c).After-starts-arg-1 in
+    λ q. let l = bound-list t (goal.at.bound-returns-in-Ok-f t c).In-Ok-vs in
     let stop = bound-stop t (goal.at.bound-returns-in-Ok-f t c).Then-starts in let a = c.args in let f = found _ _ _ a.s.now _ (past_list l stop) c.in-Ok-f.is c.scan-f.ensures in
     c.shut_quant.ensures ∙ quant_done l c.both-list.ensures _ _ _ stop
     c.grow-g.ensures f q
 
 pub bound-returns-else-starts : goal.bound-returns-else-starts
-bound-returns-else-starts t c = λ q. let l = bound-list t (goal.at.bound-returns-else-starts t c).After-starts-arg-1 in quant_gap _ _ _ _ _ _ q _ _ l.one _ _ l.others (sym c.starts.ensures ∙ c.if-starts.false)
+bound-returns-else-starts t c = λ q. let l = bound-list t (goal.at.bound-returns-else-starts t c).In-Ok-vs in quant_gap _ _ _ _ _ _ q _ _ l.one _ _ l.others (sym c.starts.ensures ∙ c.if-starts.false)
 
 pub implied-scan-f-requires : goal.implied-scan-f-requires
 implied-scan-f-requires t c = (omega (arith, c.decreases), c.requires)
@@ -217,7 +215,7 @@ parts-returns-in-Bad t c =
     (sym c.in-Bad.is ∙ c.scan-f.ensures))
 
 pub parts-both-said-requires : goal.parts-both-said-requires
-parts-both-said-requires t c = let f = parts-one t (goal.at.parts-both-said-requires t c).In-Ok in omega (arith, f.small, f.within, c.well_formed.0.0)
+parts-both-said-requires t c = let f = parts-one t (goal.at.parts-both-said-requires t c).In-Ok (parts-inside t (goal.at.parts-both-said-requires t c).In-loop-sc) in omega (arith, f.small, f.within, c.well_formed.0.0)
 
 pub parts-overflow_sub-more : goal.parts-overflow_sub-more
 parts-overflow_sub-more t c = omega arith
@@ -227,7 +225,7 @@ parts-loop-sc-smaller t c = omega arith
 
 pub parts-loop-sc-preserved : goal.parts-loop-sc-preserved
 parts-loop-sc-preserved t c =
-    let f = parts-one t (goal.at.parts-loop-sc-preserved t c).In-Ok in
+    let f = parts-one t (goal.at.parts-loop-sc-preserved t c).In-Ok (parts-inside t (goal.at.parts-loop-sc-preserved t c).In-loop-sc) in
     turn _ _ f c.both-said.ensures c.loop-sc.invariant.1 c.loop-sc.invariant.2
     (parts_turn _ _ _ _ c.loop-sc.i _ _ _ _ f c.if-more-eq0.false (parts-space t (goal.at.parts-loop-sc-preserved t c).In-loop-sc))
 

@@ -1,6 +1,5 @@
 use mathlib.Core.Path.{sym, ap, ◌∙◌}
 use native.Mathlib.Omega.{arith}
-use Prim.Native.Nat.{◌-◌}
 use lib.Seq.{slice}
 use Rattle.definitions.specs.Sheet.Formula.{is_bound}
 use Rattle.read_rule.specs.Spans.{names_are, bound_yes, bound_no, bound_end}

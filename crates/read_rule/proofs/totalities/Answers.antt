@@ -1,6 +1,6 @@
 use mathlib.Core.Path.{ap}
 use native.Mathlib.Omega.{arith}
-use Prim.Native.Nat.{◌+◌, ◌-◌}
+use Prim.Native.Nat.{◌+◌}
 use lib.ListN.{get_or}
 use Rattle.definitions.specs.Sheet.Formula.{totals}
 use Rattle.read_rule.specs.Spans.{chosen_are, totals_next, totals_end, total_le}

@@ -23,7 +23,7 @@ pub returns-in-Bad : goal.returns-in-Bad
 returns-in-Bad c = λ v. let a = c.args in type_bad _ a.s.now a.at v (colon (goal.at.returns-in-Bad c).Then-starts) (sym c.in-Bad.is ∙ c.word-w.ensures)
 
 pub returns-in-Ok : goal.returns-in-Ok
-returns-in-Ok c = λ v. 
+returns-in-Ok c = λ v.
     let a = c.args in let w = hit _ a.s.now _ _ _ _ (fit_word _ _) (inside (goal.at.returns-in-Ok c).Then-starts) (sym c.in-Ok.is
     ∙ c.word-w.ensures) in
     type_ok _ _ a.at v (colon (goal.at.returns-in-Ok c).Then-starts) _ _ _ w c.is_type-declared.ensures

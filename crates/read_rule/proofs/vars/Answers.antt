@@ -6,7 +6,7 @@ use native.Mathlib.Omega.{arith}
 use lib.ListN.{length, drop}
 use Rattle.definitions.specs.Sheet.Parsing.{begins, read_var}
 use Rattle.read_rule.specs.Seen.{names, var_facts}
-use Rattle.read_rule.specs.Turns.{after, turn_first, turn_bad, turn_last}
+use Rattle.read_rule.specs.Turns.{turn_first, turn_bad, turn_last}
 use Rattle.read_rule.specs.Steps.{Hit, hit, room, fit_var, vars_together, each_stop_at, each_full, each_bad, each_turn}
 use Rattle.read_rule.proofs.Rounds.{turn}
 use Rattle.read_rule.proofs.vars.Goals as goal
@@ -21,9 +21,9 @@ module _ (c : In-loop-sc) where
   inside = room (32 ∷ []) c.args.s.now _ c.loop-sc.invariant.0 space
 
 -- what is found after it
-one : (c : In-Ok) → let a = c.args in let i = c.loop-sc.i + 1 in
+one : (c : In-Ok) → c.loop-sc.i + 1 ≤ length c.args.s.now → let a = c.args in let i = c.loop-sc.i + 1 in
     Hit (var_facts (names a.s.now a.sc)) a.s.now i (read_var (drop i a.s.now)) c.in-Ok.next c.in-Ok.f
-one c = hit _ _ _ _ _ _ (fit_var _ _) (inside c.TODO-In-loop-sc) (sym c.in-Ok.is ∙ c.var_at-v.ensures)
+one c in-text = hit _ _ _ _ _ _ (fit_var _ _) in-text (sym c.in-Ok.is ∙ c.var_at-v.ensures)
 
 pub loop-sc-init : goal.loop-sc-init
 loop-sc-init c = (c.requires.0, omega arith, turn_first _)
@@ -46,7 +46,7 @@ returns-in-Bad c =
     (sym c.in-Bad.is ∙ c.var_at-v.ensures))
 
 pub both-said-requires : goal.both-said-requires
-both-said-requires c = let v = one (goal.at.both-said-requires c).In-Ok in omega (arith, v.small, v.within, c.well_formed.0.0)
+both-said-requires c = let v = one (goal.at.both-said-requires c).In-Ok (inside (goal.at.both-said-requires c).In-loop-sc) in omega (arith, v.small, v.within, c.well_formed.0.0)
 
 pub overflow_sub-more : goal.overflow_sub-more
 overflow_sub-more c = omega (arith, c.if-more-eq0.false)
@@ -56,7 +56,7 @@ loop-sc-smaller c = omega (arith, c.if-more-eq0.false)
 
 pub loop-sc-preserved : goal.loop-sc-preserved
 loop-sc-preserved c =
-    let v = one (goal.at.loop-sc-preserved c).In-Ok in
+    let v = one (goal.at.loop-sc-preserved c).In-Ok (inside (goal.at.loop-sc-preserved c).In-loop-sc) in
     turn _ _ v c.both-said.ensures c.loop-sc.invariant.1 c.loop-sc.invariant.2
     (each_turn _ _ _ (vars_together _) _ c.loop-sc.i _ _ _ v c.if-more-eq0.false (space (goal.at.loop-sc-preserved c).In-loop-sc))
 
