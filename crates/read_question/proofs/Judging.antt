@@ -9,8 +9,6 @@ use native.Mathlib.Omega.{arith}
 use lib.Dec.{eqb, leb}
 use lib.Seq.{slice}
 use borrow.Author.Tests.{eq-eqb, ne_eqb, eqb-true, leb-false, not-false}
-use denote.Enum.Declared.{tag_of}
-use types.Run.{OneOf, miss}
 use Rattle.definitions.specs.Lists.{if◌then◌else◌, all, any, same, option, position}
 use Rattle.definitions.specs.Sheet.Text.{is_relation_name}
 use Rattle.definitions.specs.Sheet.Relations.{is_declared}
@@ -26,7 +24,6 @@ use Rattle.read_names.proofs.Laws.{any_found, any_missed, position_some, found_s
 use Rattle.read_line.specs.Entries.{types_at}
 use Rattle.read_line.specs.declared.Entry.{Entry}
 use Rattle.read_line.specs.declared.Entry.TheVariants.{Wrong, Rel, Typed, Choose, Every, Rule, Size, Label, Member, Fact, Pick, Step}
-use Rattle.read_line.specs.contracts.Entry.{the_type}
 use Rattle.read_line.proofs.Made.{types_at_lem}
 use Rattle.read_question.specs.declared.Sorts.{Sorts}
 use Rattle.read_question.specs.Drafts.{draft_of, is_late, is_closed, name_fault, type_fault, choose_fault, every_fault, judge_of, Room, sorts_in, pushed, typed, grown_by, span_in, later_of}
@@ -278,50 +275,41 @@ module _ (s : List ℕ) (g : Signature) {x : Entry} where
   unfolding grown_by
   grown_every p = sym (ap (grown_by s g) p)
 
--- ---- what is left of an enum when some of its variants, by their places, are ruled out
+-- ---- what is left of an entry when some of its variants are ruled out
 
-abbrev other_sheets : List ℕ
-other_sheets = 6 ∷ 7 ∷ 8 ∷ 9 ∷ 10 ∷ 11 ∷ []
-
-pub judge_other : (s : List ℕ) (g : Signature) (x : Entry) → OneOf other_sheets (tag_of the_type x) → 3 ≡ judge_of s g x
+pub judge_other : (s : List ℕ) (g : Signature) (x : Entry) → (x ≡ Wrong → ⊥) → ((a e k : ℕ) → x ≡ Rel a e k → ⊥) → ((a e : ℕ) → x ≡ Typed a e → ⊥) → ((a e k d t u v : ℕ) → x ≡ Choose a e k d t u v → ⊥) → ((a e k : ℕ) → x ≡ Every a e k → ⊥) → ((a e : ℕ) → x ≡ Rule a e → ⊥) → 3 ≡ judge_of s g x
 unfolding judge_of
-judge_other s g Wrong w = absurd (miss other_sheets 0 tt w)
-judge_other s g (Rel a e k) w = absurd (miss other_sheets 1 tt w)
-judge_other s g (Typed a e) w = absurd (miss other_sheets 2 tt w)
-judge_other s g (Choose a e k d t u v) w = absurd (miss other_sheets 3 tt w)
-judge_other s g (Every a e k) w = absurd (miss other_sheets 4 tt w)
-judge_other s g (Rule a e) w = absurd (miss other_sheets 5 tt w)
-judge_other s g (Size n) w = refl
-judge_other s g (Label k a t e) w = refl
-judge_other s g (Member a t k e) w = refl
-judge_other s g (Fact a t e p) w = refl
-judge_other s g (Pick a t e p) w = refl
-judge_other s g (Step k) w = refl
+judge_other s g Wrong w0 w1 w2 w3 w4 w5 = absurd (w0 refl)
+judge_other s g (Rel a e k) w0 w1 w2 w3 w4 w5 = absurd (w1 a e k refl)
+judge_other s g (Typed a e) w0 w1 w2 w3 w4 w5 = absurd (w2 a e refl)
+judge_other s g (Choose a e k d t u v) w0 w1 w2 w3 w4 w5 = absurd (w3 a e k d t u v refl)
+judge_other s g (Every a e k) w0 w1 w2 w3 w4 w5 = absurd (w4 a e k refl)
+judge_other s g (Rule a e) w0 w1 w2 w3 w4 w5 = absurd (w5 a e refl)
+judge_other s g (Size n) w0 w1 w2 w3 w4 w5 = refl
+judge_other s g (Label k a t e) w0 w1 w2 w3 w4 w5 = refl
+judge_other s g (Member a t k e) w0 w1 w2 w3 w4 w5 = refl
+judge_other s g (Fact a t e p) w0 w1 w2 w3 w4 w5 = refl
+judge_other s g (Pick a t e p) w0 w1 w2 w3 w4 w5 = refl
+judge_other s g (Step k) w0 w1 w2 w3 w4 w5 = refl
 
-abbrev undeclaring : List ℕ
-undeclaring = 0 ∷ 5 ∷ other_sheets
-
-pub grown_other : (s : List ℕ) (g : Signature) (x : Entry) → OneOf undeclaring (tag_of the_type x) → g ≡ grown_by s g x
+pub grown_other : (s : List ℕ) (g : Signature) (x : Entry) → ((a e k : ℕ) → x ≡ Rel a e k → ⊥) → ((a e : ℕ) → x ≡ Typed a e → ⊥) → ((a e k d t u v : ℕ) → x ≡ Choose a e k d t u v → ⊥) → ((a e k : ℕ) → x ≡ Every a e k → ⊥) → g ≡ grown_by s g x
 unfolding grown_by
-grown_other s g (Rel a e k) w = absurd (miss undeclaring 1 tt w)
-grown_other s g (Typed a e) w = absurd (miss undeclaring 2 tt w)
-grown_other s g (Choose a e k d t u v) w = absurd (miss undeclaring 3 tt w)
-grown_other s g (Every a e k) w = absurd (miss undeclaring 4 tt w)
-grown_other s g Wrong w = refl
-grown_other s g (Rule a e) w = refl
-grown_other s g (Size n) w = refl
-grown_other s g (Label k a t e) w = refl
-grown_other s g (Member a t k e) w = refl
-grown_other s g (Fact a t e p) w = refl
-grown_other s g (Pick a t e p) w = refl
-grown_other s g (Step k) w = refl
+grown_other s g (Rel a e k) w0 w1 w2 w3 = absurd (w0 a e k refl)
+grown_other s g (Typed a e) w0 w1 w2 w3 = absurd (w1 a e refl)
+grown_other s g (Choose a e k d t u v) w0 w1 w2 w3 = absurd (w2 a e k d t u v refl)
+grown_other s g (Every a e k) w0 w1 w2 w3 = absurd (w3 a e k refl)
+grown_other s g Wrong w0 w1 w2 w3 = refl
+grown_other s g (Rule a e) w0 w1 w2 w3 = refl
+grown_other s g (Size n) w0 w1 w2 w3 = refl
+grown_other s g (Label k a t e) w0 w1 w2 w3 = refl
+grown_other s g (Member a t k e) w0 w1 w2 w3 = refl
+grown_other s g (Fact a t e p) w0 w1 w2 w3 = refl
+grown_other s g (Pick a t e p) w0 w1 w2 w3 = refl
+grown_other s g (Step k) w0 w1 w2 w3 = refl
 
-abbrev not_rule : List ℕ
-not_rule = 0 ∷ 1 ∷ 2 ∷ 3 ∷ 4 ∷ other_sheets
-
-pub span_other : (x : Entry) → OneOf not_rule (tag_of the_type x) → record { from = 0; to = 0 } ≡ span_in x
+pub span_other : (x : Entry) → ((a e : ℕ) → x ≡ Rule a e → ⊥) → record { from = 0; to = 0 } ≡ span_in x
 unfolding span_in
-span_other (Rule a e) w = absurd (miss not_rule 5 tt w)
+span_other (Rule a e) w = absurd (w a e refl)
 span_other Wrong w = refl
 span_other (Rel a e k) w = refl
 span_other (Typed a e) w = refl
@@ -334,12 +322,9 @@ span_other (Fact a t e p) w = refl
 span_other (Pick a t e p) w = refl
 span_other (Step k) w = refl
 
-abbrev not_wrong : List ℕ
-not_wrong = 1 ∷ 2 ∷ 3 ∷ 4 ∷ 5 ∷ other_sheets
-
-pub later_other : (x : Entry) → OneOf not_wrong (tag_of the_type x) → 3 ≡ later_of x
+pub later_other : (x : Entry) → (x ≡ Wrong → ⊥) → 3 ≡ later_of x
 unfolding later_of
-later_other Wrong w = absurd (miss not_wrong 0 tt w)
+later_other Wrong w = absurd (w refl)
 later_other (Rel a e k) w = refl
 later_other (Typed a e) w = refl
 later_other (Choose a e k d t u v) w = refl

@@ -1,5 +1,6 @@
 // The question's reader: its relations and types as a signature, the place of its rule's formula, or its refusal (1 to 8, 19).
 #![tactic(auto)]
+
 ghost use Rattle.std.specs.Prelude.{◌≡◌, ◌+◌, ◌≤◌, ◌<◌, length, take, drop};
 ghost use Rattle.std.proofs.Math.Seq.{slice};
 ghost use Rattle.definitions.specs.Sheet.Sheets.{read_question};

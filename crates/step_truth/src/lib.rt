@@ -1,6 +1,7 @@
 // Truth of the node atoms, word by word: node after node from the last, the rows of its innermost free variable at a time. A part's
 // atoms along a level are a window of the state, whose bits are the part's truth at the elements.
 #![tactic(auto)]
+
 ghost use Rattle.std.specs.Prelude.{◌≡◌, ◌&&◌, ◌||◌, ℕ, zero, ◌+◌, ◌*◌, ◌^◌, ◌<◌, ◌≤◌, eqb, length};
 ghost use mathlib.Core.List.{List, Memᴰ};
 ghost use Rattle.definitions.specs.Lists.{all, any, from, is_in, up_to};

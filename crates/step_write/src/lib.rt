@@ -1,6 +1,7 @@
 // The steps of the nodes, read off a state that knows the truth of all their atoms: a step for each true atom, later nodes first, its
 // number written to the lent steps.
 #![tactic(auto)]
+
 ghost use Rattle.std.specs.Prelude.{◌≡◌, false, List, ℕ, zero, ◌+◌, ◌-◌, ◌*◌, ◌^◌, ◌<◌, ◌≤◌, length, get_or};
 ghost use Rattle.definitions.specs.Lists.{from};
 ghost use Rattle.definitions.specs.Sheet.Relations.{Tuple};

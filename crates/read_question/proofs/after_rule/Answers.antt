@@ -5,7 +5,9 @@ use Rattle.read_question.proofs.Judging.{later_other}
 use Rattle.read_question.proofs.after_rule.Goals as goal
 
 pub returns-in-Wrong : goal.returns-in-Wrong
+unfolding later_of
 returns-in-Wrong c = sym (ap later_of c.in-Wrong.is)
 
 pub returns : goal.returns
-returns c = later_other c.args.x c.in_default.keys2
+unfolding later_of
+returns c = later_other c.args.x c.in_default.not-Wrong

@@ -44,4 +44,4 @@ pub returns-in-Every : goal.returns-in-Every
 returns-in-Every c = c.push-in-Every.ensures ∙ grown_every _ _ c.in-Every.is
 
 pub returns-in_default : goal.returns-in_default
-returns-in_default c = grown_other _ _ _ c.in_default.keys5
+returns-in_default c = grown_other _ _ _ c.in_default.not-Rel c.in_default.not-Typed c.in_default.not-Choose c.in_default.not-Every

@@ -53,4 +53,4 @@ pub returns-else-g-eq0 : goal.returns-else-g-eq0
 returns-else-g-eq0 c = rule_now _ _ _ _ _ c.in-Rule.is c.if-g-eq0.false
 
 pub returns-in_default : goal.returns-in_default
-returns-in_default c = judge_other _ _ _ c.in_default.keys7
+returns-in_default c = judge_other _ _ _ c.in_default.not-Wrong c.in_default.not-Rel c.in_default.not-Typed c.in_default.not-Choose c.in_default.not-Every c.in_default.not-Rule

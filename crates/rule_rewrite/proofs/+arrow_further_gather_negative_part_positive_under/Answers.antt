@@ -1,180 +1,176 @@
-use mathlib.Core.Path.{◌≡◌, sym, ap, ◌∙◌}
-use mathlib.Core.Bool.{true}
+use mathlib.Core.Path.{sym, ap, ◌∙◌}
+use mathlib.Core.Bool.{true, false}
 use native.Mathlib.Omega.{arith}
-use Prim.Native.Nat.{◌+◌, ◌-◌, ◌^◌, ℕ, ◌<◌, ◌≤◌}
-use lib.ListN.{length}
 use Rattle.read_rule.specs.Seen.{head_of}
-use Rattle.read_rule.specs.declared.Kind.{Kind}
-use Rattle.rule_rewrite.proofs.Calls.{still, Handed, further_rest}
-use Rattle.rule_rewrite.proofs.Calls.{further_between, arrow_second, arrow_between, arrow_end, arrow_done}
-use Rattle.rule_rewrite.proofs.Calls.{gather_rest, gather_between, gather_end, gather_done, under_part}
+use Rattle.rule_rewrite.proofs.Turns.{ready_in, ready_nodes, parts_in, parts_end}
+use Rattle.rule_rewrite.proofs.Calls.{still, not_part, not_in, not_end, not_done, further_first, further_in, further_rest}
+use Rattle.rule_rewrite.proofs.Calls.{further_between, arrow_first, arrow_in, arrow_second, arrow_between, arrow_end, arrow_done, gather_first}
+use Rattle.rule_rewrite.proofs.Calls.{gather_in, gather_rest, gather_between, gather_end, gather_done, under_list, under_in, under_part}
 use Rattle.rule_rewrite.proofs.Calls.{under_bound, under_end, under_done, further_done}
-use Rattle.rule_rewrite.proofs as own
-use Rattle.rule_rewrite.proofs.+arrow_further_gather_negative_part_positive_under as circle
 use Rattle.rule_rewrite.proofs.+arrow_further_gather_negative_part_positive_under.Goals as goal
 
-module _ (t : ℕ) where
-  abbrev arrow-at : In 4 own.arrow.Kinds.ps
-  arrow-at = at own.arrow.Kinds.ps (μ-part 0) arrow.Pre t
+-- ---- an implication
+pub arrow-overflow_add-at : goal.arrow-overflow_add-at
+arrow-overflow_add-at t c = omega (arith, arrow_in (c.requires.ready_in, c.requires.s_value), c.well_formed.0.0)
 
-  abbrev further-at : In 4 own.further.Kinds.ps
-  further-at = at own.further.Kinds.ps μ-further further.Pre t
+pub arrow-part-x-requires : goal.arrow-part-x-requires
+arrow-part-x-requires t c = (omega (arith, c.decreases, arrow_in (c.requires.ready_in, c.requires.s_value)), (c.requires.in_bounds, arrow_first (c.requires.ready_in, c.requires.s_value)))
 
-  abbrev gather-at : In 4 own.gather.Kinds.ps
-  gather-at = at own.gather.Kinds.ps μ-form gather.Pre t
+pub arrow-overflow_add-x : goal.arrow-overflow_add-x
+arrow-overflow_add-x t c = omega (arith, (arrow_between (c.requires.ready_in, c.requires.s_value) c.args.pos c.part-x.ensures).1, c.well_formed.0.0)
 
-  abbrev negative-at : In 4 own.negative.Kinds.ps
-  negative-at = at own.negative.Kinds.ps μ-whole negative.Pre t
+pub arrow-part-y-requires : goal.arrow-part-y-requires
+arrow-part-y-requires t c =
+    let e = arrow_between (c.requires.ready_in, c.requires.s_value) c.args.pos c.part-x.ensures in
+    (omega (arith, c.decreases, e.0, e.1), (still c.requires.in_bounds c.part-x.auto.rows, arrow_second (c.requires.ready_in, c.requires.s_value) c.args.pos c.part-x.ensures))
 
-  abbrev positive-at : In 4 own.positive.Kinds.ps
-  positive-at = at own.positive.Kinds.ps μ-whole positive.Pre t
+pub arrow-put_row-requires : goal.arrow-put_row-requires
+arrow-put_row-requires t c =
+    let e = arrow_end (c.requires.ready_in, c.requires.s_value) c.args.pos c.part-x.ensures c.part-y.ensures in
+    (c.part-y.auto.rows ∙ c.part-x.auto.rows ∙ c.requires.in_bounds.2, e.0)
 
-  abbrev under_at_lem : In 4 own.under.Kinds.ps
-  under_at_lem = at own.under.Kinds.ps μ-form under.Pre t
+pub arrow-overflow_add-result : goal.arrow-overflow_add-result
+arrow-overflow_add-result t c =
+    let e = arrow_end (c.requires.ready_in, c.requires.s_value) c.args.pos c.part-x.ensures c.part-y.ensures in
+    omega (arith, e.0)
 
-  abbrev arrow-below : In 4 own.arrow.Kinds.ps
-  arrow-below = below own.arrow.Kinds.ps (μ-part 0) arrow.Pre t
+pub arrow-overflow_add-result-2 : goal.arrow-overflow_add-result-2
+arrow-overflow_add-result-2 t c =
+    let e = arrow_end (c.requires.ready_in, c.requires.s_value) c.args.pos c.part-x.ensures c.part-y.ensures in
+    omega (arith, e.1, c.well_formed.0.0)
 
-  abbrev further-below : In 4 own.further.Kinds.ps
-  further-below = below own.further.Kinds.ps μ-further further.Pre t
+pub arrow-returns : goal.arrow-returns
+arrow-returns t c = λ W. arrow_done (W, c.requires.s_value) c.args.pos c.part-x.ensures c.part-y.ensures c.join_kind-kind.ensures c.join_row-row.ensures (c.put_row.ensures.1 _ _)
 
-  abbrev gather-below : In 4 own.gather.Kinds.ps
-  gather-below = below own.gather.Kinds.ps μ-form gather.Pre t
+-- ---- further parts
+pub further-bounds-s-at : goal.further-bounds-s-at
+further-bounds-s-at t c = parts_in c.requires.parts_ready_in.ready
 
-  abbrev negative-below : In 4 own.negative.Kinds.ps
-  negative-below = below own.negative.Kinds.ps μ-whole negative.Pre t
+pub further-part-x-requires : goal.further-part-x-requires
+further-part-x-requires t c = (omega (arith, c.decreases, further_in c.requires.parts_ready_in c.if-s-at-eq32.true), (c.requires.in_bounds, further_first c.requires.parts_ready_in c.if-s-at-eq32.true))
 
-  abbrev part-below : In 4 own.part.Kinds.ps
-  part-below = below own.part.Kinds.ps (μ-part 2) part.Pre t
+pub further-further-requires : goal.further-further-requires
+further-further-requires t c =
+    let e = further_between c.requires.parts_ready_in c.if-s-at-eq32.true c.args.pos c.part-x.ensures in (
+      omega (arith, c.decreases, e.0, e.1),
+      (
+        still c.requires.in_bounds c.part-x.auto.rows,
+        (further_rest c.requires.parts_ready_in c.if-s-at-eq32.true c.args.pos c.part-x.ensures, omega (arith, e.2, c.requires.many_le_len)),
+      ),
+    )
 
-  abbrev positive-below : In 4 own.positive.Kinds.ps
-  positive-below = below own.positive.Kinds.ps μ-whole positive.Pre t
+pub further-returns-then-s-at-eq32 : goal.further-returns-then-s-at-eq32
+further-returns-then-s-at-eq32 t c = λ W. further_done W c.if-s-at-eq32.true c.args.pos c.part-x.ensures c.further.ensures
 
-  abbrev under-below : In 4 own.under.Kinds.ps
-  under-below = below own.under.Kinds.ps μ-form under.Pre t
+pub further-returns-else-s-at-eq32 : goal.further-returns-else-s-at-eq32
+further-returns-else-s-at-eq32 t c = λ W. parts_end W.ready c.args.pos c.args.many c.if-s-at-eq32.false
 
-  -- ---- an implication
-  abbrev arrow-claims : circle.Lts-arrow.Claims
-  arrow-claims = (part-below, part.Post, join-kind.Asked, join-kind.Learnt, join-row.Asked, join-row.Learnt, put-row.Asked, put-row.Learnt)
+-- ---- `and`, `or`
+pub gather-overflow_add-at : goal.gather-overflow_add-at
+gather-overflow_add-at t c = omega (arith, (gather_in c.args.conj (c.requires.ready_in, c.requires.s_value) c.join_word-skip.ensures).1, c.well_formed.0.0)
 
-  -- after its second part
-  arrow-ends : (c : circle.Lts-arrow.After-part2 arrow-claims arrow-at arrow.Post)
-      → let s = c.before.before.before.before.before.before.before.before.before.before.before in
-      (c.part2.result.len < 64) × (c.part2.result.at + 1 < 2 ^ 64) × (length c.part2.new.1.1.1.1.1.1.1.0 ≡ length s.args.rows.now)
-  arrow-ends c =
-      let p = c.before.before.before.before.before in let s = p.before.before.before.before.before.before in
-      let e = arrow_end s.requires.1.1 s.args.pos p.part.ensures c.part2.ensures in
-      (e.0, omega (arith, e.1, s.well-formed.0.0), c.part2.auto.1.1.1.1.1.1.1.0 ∙ p.part.auto.1.1.1.1.1.1.1.0)
+pub gather-part-x-requires : goal.gather-part-x-requires
+gather-part-x-requires t c =
+    let e = gather_in c.args.conj (c.requires.ready_in, c.requires.s_value) c.join_word-skip.ensures in
+    (omega (arith, c.decreases, e.0, e.1), (c.requires.in_bounds, gather_first c.args.conj (c.requires.ready_in, c.requires.s_value) c.join_word-skip.ensures))
 
-  arrow-part-requires-2 : circle.Lts-arrow.Need-part-requires-2 arrow-claims arrow-at arrow.Post
-  arrow-part-requires-2 c κs =
-      let p = c.before.before.before.before in let s = p.before.before.before.before.before.before in let h = s.requires.1 in
-      let e = arrow_between h.1 s.args.pos p.part.ensures in
-      (omega (arith, s.requires.0, e.0, e.1), (still h.0 p.part.auto.1.1.1.1.1.1.1.0, arrow_second h.1 s.args.pos p.part.ensures))
+pub gather-further-y-requires : goal.gather-further-y-requires
+gather-further-y-requires t c =
+    let e = gather_between c.args.conj (c.requires.ready_in, c.requires.s_value) c.join_word-skip.ensures c.args.pos c.part-x.ensures in (
+      omega (arith, c.decreases, e.0, e.1),
+      (
+        still c.requires.in_bounds c.part-x.auto.rows,
+        (gather_rest c.args.conj (c.requires.ready_in, c.requires.s_value) c.join_word-skip.ensures c.args.pos c.part-x.ensures, e.2),
+      ),
+    )
 
-  arrow-returns : circle.Lts-arrow.Need-returns arrow-claims arrow-at arrow.Post
-  arrow-returns c W =
-      let r = c.before.before.before.before in let k = r.before.before.before in let q = k.before.before.before in
-      let p = q.before.before.before.before.before in let s = p.before.before.before.before.before.before in
-      arrow_done (W, s.requires.1.1.1) s.args.pos p.part.ensures q.part2.ensures k.join-kind.ensures
-      r.before.before.join-row.ensures (r.put-row.ensures.1 _ _)
+pub gather-join_row-row-requires : goal.gather-join_row-row-requires
+gather-join_row-row-requires t c =
+    let e = gather_end c.args.conj (c.requires.ready_in, c.requires.s_value) c.join_word-skip.ensures c.args.pos c.part-x.ensures c.further-y.ensures in
+    (omega (arith, ready_nodes c.requires.ready_in.ready), e.2)
 
-  -- ---- further parts
-  abbrev further-claims : circle.Lts-further.Claims
-  further-claims = (part-below, part.Post, further-below, further.Post)
+pub gather-put_row-requires : goal.gather-put_row-requires
+gather-put_row-requires t c =
+    let e = gather_end c.args.conj (c.requires.ready_in, c.requires.s_value) c.join_word-skip.ensures c.args.pos c.part-x.ensures c.further-y.ensures in
+    (c.further-y.auto.rows ∙ c.part-x.auto.rows ∙ c.requires.in_bounds.2, e.0)
 
-  further-further-requires : circle.Lts-further.Need-further-requires further-claims further-at further.Post
-  further-further-requires c κs =
-      let p = c.before.before.before in let i = p.before.before in let s = i.before.before.before.before.before.before in
-      let h = s.requires.1 in let e = further_between h.1.0 i.if1.true s.args.pos p.part.ensures in
-      let rest = further_rest h.1.0 i.if1.true s.args.pos p.part.ensures in
-      (omega (arith, s.requires.0, e.0, e.1), (still h.0 p.part.auto.1.1.1.1.1.1.1.0, (rest, omega (arith, e.2, h.1.1))))
+pub gather-overflow_add-result : goal.gather-overflow_add-result
+gather-overflow_add-result t c =
+    let e = gather_end c.args.conj (c.requires.ready_in, c.requires.s_value) c.join_word-skip.ensures c.args.pos c.part-x.ensures c.further-y.ensures in
+    omega (arith, e.0)
 
-  further-returns : circle.Lts-further.Need-returns further-claims further-at further.Post
-  further-returns c W =
-      let p = c.before.before.before.before.before.before in let i = p.before.before in
-      further_done W i.if1.true i.before.before.before.before.before.before.args.pos p.part.ensures
-      c.before.before.further.ensures
+pub gather-overflow_add-result-2 : goal.gather-overflow_add-result-2
+gather-overflow_add-result-2 t c =
+    let e = gather_end c.args.conj (c.requires.ready_in, c.requires.s_value) c.join_word-skip.ensures c.args.pos c.part-x.ensures c.further-y.ensures in
+    omega (arith, e.1, c.well_formed.0.0)
 
-  -- ---- `and`, `or`
-  abbrev gather-claims : circle.Lts-gather.Claims
-  gather-claims = (word.Asked, word.Learnt, part-below, part.Post, further-below, further.Post, join-kind.Asked, join-kind.Learnt, join-row.Asked, join-row.Learnt, put-row.Asked, put-row.Learnt)
+pub gather-returns : goal.gather-returns
+gather-returns t c = λ W. gather_done c.args.conj (W, c.requires.s_value) c.join_word-skip.ensures c.args.pos c.part-x.ensures c.further-y.ensures c.join_kind-kind.ensures c.join_row-row.ensures (c.put_row.ensures.1 _ _)
 
-  -- after the further parts
-  gather-ends : (c : circle.Lts-gather.After-further gather-claims gather-at gather.Post)
-      → let s = c.before.before.before.before.before.before.before.before.before.before.before in
-      (c.further.result.len < 64) × (c.further.result.at + 1 < 2 ^ 64) × (c.further.result.many ≤ 64)
-      × (length c.further.new.1.1.1.1.1.1.1.1.0 ≡ length s.args.rows.now)
-  gather-ends c =
-      let p = c.before.before.before.before in let j = p.before.before in let s = j.before.before.before.before.before in
-      let e = gather_end s.args.conj s.requires.1.1 j.join-word.ensures s.args.pos p.part.ensures c.further.ensures in
-      (e.0, omega (arith, e.1, s.well-formed.0.0), e.2, c.further.auto.1.1.1.1.1.1.1.1.0 ∙ p.part.auto.1.1.1.1.1.1.1.0)
+-- ---- a formula under a negation
+pub negative-kind_at-k-requires : goal.negative-kind_at-k-requires
+negative-kind_at-k-requires t c = omega (arith, ready_in c.requires.ready_in.ready)
 
-  gather-further-requires : circle.Lts-gather.Need-further-requires gather-claims gather-at gather.Post
-  gather-further-requires c κs =
-      let p = c.before.before.before in let j = p.before.before in let s = j.before.before.before.before.before in
-      let h = s.requires.1 in let e = gather_between s.args.conj h.1 j.join-word.ensures s.args.pos p.part.ensures in
-      let rest = gather_rest s.args.conj h.1 j.join-word.ensures s.args.pos p.part.ensures in
-      (omega (arith, s.requires.0, e.0, e.1), (still h.0 p.part.auto.1.1.1.1.1.1.1.0, (rest, e.2)))
+pub negative-overflow_add-at : goal.negative-overflow_add-at
+negative-overflow_add-at t c = omega (arith, not_in (c.requires.ready_in, sym c.kind_at-k.ensures ∙ ap head_of c.in-Not.is), c.well_formed.0.0)
 
-  gather-returns : circle.Lts-gather.Need-returns gather-claims gather-at gather.Post
-  gather-returns c W =
-      let r = c.before.before.before.before in let k = r.before.before.before in let f = k.before.before.before in
-      let p = f.before.before.before.before in let j = p.before.before in let s = j.before.before.before.before.before in
-      gather_done s.args.conj (W, s.requires.1.1.1) j.join-word.ensures s.args.pos p.part.ensures f.further.ensures
-      k.join-kind.ensures r.before.before.join-row.ensures (r.put-row.ensures.1 _ _)
+pub negative-positive-w-requires : goal.negative-positive-w-requires
+negative-positive-w-requires t c = (omega (arith, c.decreases, not_in (c.requires.ready_in, sym c.kind_at-k.ensures ∙ ap head_of c.in-Not.is)), (c.requires.in_bounds, not_part (c.requires.ready_in, sym c.kind_at-k.ensures ∙ ap head_of c.in-Not.is)))
 
-  -- ---- a formula under a negation, and as it stands: its kind is told, and goes with it to the function of its form
-  abbrev negative-claims : circle.Lts-negative.Claims
-  negative-claims = (kind_at.Asked, kind_at.Learnt, positive-below, positive.Post, arrow-below, arrow.Post, gather-below, gather.Post, under-below, under.Post, literal.Asked, literal.Learnt)
+pub negative-overflow_add-result : goal.negative-overflow_add-result
+negative-overflow_add-result t c = omega (arith, not_end (c.requires.ready_in, sym c.kind_at-k.ensures ∙ ap head_of c.in-Not.is) false c.positive-w.ensures, c.well_formed.0.0)
 
-  abbrev positive-claims : circle.Lts-positive.Claims
-  positive-claims = (kind_at.Asked, kind_at.Learnt, negative-below, negative.Post, arrow-below, arrow.Post, gather-below, gather.Post, under-below, under.Post, literal.Asked, literal.Learnt)
+pub negative-returns-in-Not : goal.negative-returns-in-Not
+negative-returns-in-Not t c = λ W. not_done (W, sym c.kind_at-k.ensures ∙ ap head_of c.in-Not.is) false c.positive-w.ensures
 
-  negative-form : (c : circle.Lts-negative.After-kind-at negative-claims negative-at negative.Post) {k : Kind} → c.kind_at.result ≡ k
-      → let a = c.before.before.before.before.before.args in
-      Handed t a.s.now a.at a.from.now a.to.now a.m a.sc a.rows.now a.len a.nodes k
-  negative-form c e =
-      let s = c.before.before.before.before.before in
-      (omega (arith, s.requires.0), (s.requires.1.0, (s.requires.1.1, sym c.kind_at.ensures ∙ ap head_of e)))
+-- ---- a formula as it stands
+pub positive-kind_at-k-requires : goal.positive-kind_at-k-requires
+positive-kind_at-k-requires t c = omega (arith, ready_in c.requires.ready_in.ready)
 
-  positive-form : (c : circle.Lts-positive.After-kind-at positive-claims positive-at positive.Post) {k : Kind} → c.kind_at.result ≡ k
-      → let a = c.before.before.before.before.before.args in
-      Handed t a.s.now a.at a.from.now a.to.now a.m a.sc a.rows.now a.len a.nodes k
-  positive-form c e =
-      let s = c.before.before.before.before.before in
-      (omega (arith, s.requires.0), (s.requires.1.0, (s.requires.1.1, sym c.kind_at.ensures ∙ ap head_of e)))
+pub positive-overflow_add-at : goal.positive-overflow_add-at
+positive-overflow_add-at t c = omega (arith, not_in (c.requires.ready_in, sym c.kind_at-k.ensures ∙ ap head_of c.in-Not.is), c.well_formed.0.0)
 
-  -- ---- a quantifier
-  abbrev under-claims : circle.Lts-under.Claims
-  under-claims = (bind.Asked, bind.Learnt, part-below, part.Post, quant-kind.Asked, quant-kind.Learnt, chain.Asked, chain.Learnt)
+pub positive-negative-w-requires : goal.positive-negative-w-requires
+positive-negative-w-requires t c = (omega (arith, c.decreases, not_in (c.requires.ready_in, sym c.kind_at-k.ensures ∙ ap head_of c.in-Not.is)), (c.requires.in_bounds, not_part (c.requires.ready_in, sym c.kind_at-k.ensures ∙ ap head_of c.in-Not.is)))
 
-  -- after its part
-  under-ends : (c : circle.Lts-under.After-part under-claims under_at_lem under.Post)
-      → let b = c.before.before.before.before.before in let s = b.before.before.before.before.before in
-      (c.part.result.len + (b.bind.result.scope.n - s.args.sc.n) ≤ 64) × (c.part.result.at + 1 < 2 ^ 64)
-  under-ends c =
-      let b = c.before.before.before.before.before in let s = b.before.before.before.before.before in
-      let e = under_end s.args.some s.requires.1.1 b.bind.ensures s.args.pos c.part.ensures in
-      (e.0, omega (arith, e.1, s.well-formed.0.0))
+pub positive-overflow_add-result : goal.positive-overflow_add-result
+positive-overflow_add-result t c = omega (arith, not_end (c.requires.ready_in, sym c.kind_at-k.ensures ∙ ap head_of c.in-Not.is) true c.negative-w.ensures, c.well_formed.0.0)
 
-  under-part-requires : circle.Lts-under.Need-part-requires under-claims under_at_lem under.Post
-  under-part-requires c κs =
-      let b = c.before.before.before.before in let s = b.before.before.before.before.before in let h = s.requires.1 in
-      let e = under_bound s.args.some h.1 b.bind.ensures in
-      (omega (arith, s.requires.0, e.1, e.2), (h.0, under_part s.args.some h.1 b.bind.ensures))
+pub positive-returns-in-Not : goal.positive-returns-in-Not
+positive-returns-in-Not t c = λ W. not_done (W, sym c.kind_at-k.ensures ∙ ap head_of c.in-Not.is) true c.negative-w.ensures
 
-  under-chain-requires : circle.Lts-under.Need-chain-requires under-claims under_at_lem under.Post
-  under-chain-requires c κs =
-      let p = c.before.before.before.before in let b = p.before.before.before.before.before in
-      let s = b.before.before.before.before.before in
-      let e = under_bound s.args.some s.requires.1.1 b.bind.ensures in
-      ((under-ends p).0, e.3, e.4, p.part.auto.1.1.1.1.1.1.1.0 ∙ s.requires.1.0.2)
+-- ---- a quantifier
+pub under-overflow_add-at : goal.under-overflow_add-at
+under-overflow_add-at t c = omega (arith, under_in c.args.some (c.requires.ready_in, c.requires.s_value), c.well_formed.0.0)
 
-  under-returns : circle.Lts-under.Need-returns under-claims under_at_lem under.Post
-  under-returns c W =
-      let r = c.before.before.before.before in let p = r.before.before.before.before.before in
-      let b = p.before.before.before.before.before in
-      let s = b.before.before.before.before.before in
-      under_done s.args.some (W, s.requires.1.1.1) b.bind.ensures s.args.pos p.part.ensures r.before.before.quant-kind.ensures
-      (r.chain.ensures _)
+pub under-bind-d-requires-clause-list_ready : goal.under-bind-d-requires-clause-list_ready
+under-bind-d-requires-clause-list_ready t c = under_list c.args.some (c.requires.ready_in, c.requires.s_value)
+
+pub under-overflow_sub-k : goal.under-overflow_sub-k
+under-overflow_sub-k t c = (under_bound c.args.some (c.requires.ready_in, c.requires.s_value) c.bind-d.ensures).0
+
+pub under-overflow_add-nodes : goal.under-overflow_add-nodes
+under-overflow_add-nodes t c = omega (arith, (under_bound c.args.some (c.requires.ready_in, c.requires.s_value) c.bind-d.ensures).3)
+
+pub under-part-x-requires : goal.under-part-x-requires
+under-part-x-requires t c =
+    let e = under_bound c.args.some (c.requires.ready_in, c.requires.s_value) c.bind-d.ensures in
+    (omega (arith, c.decreases, e.1, e.2), (c.requires.in_bounds, under_part c.args.some (c.requires.ready_in, c.requires.s_value) c.bind-d.ensures))
+
+pub under-chain-requires : goal.under-chain-requires
+under-chain-requires t c =
+    let e = under_bound c.args.some (c.requires.ready_in, c.requires.s_value) c.bind-d.ensures in
+    ((under_end c.args.some (c.requires.ready_in, c.requires.s_value) c.bind-d.ensures c.args.pos c.part-x.ensures).0, e.3, e.4, c.part-x.auto.rows ∙ c.requires.in_bounds.2)
+
+pub under-overflow_add-result : goal.under-overflow_add-result
+under-overflow_add-result t c =
+    let e = under_end c.args.some (c.requires.ready_in, c.requires.s_value) c.bind-d.ensures c.args.pos c.part-x.ensures in
+    omega (arith, e.0)
+
+pub under-overflow_add-result-2 : goal.under-overflow_add-result-2
+under-overflow_add-result-2 t c =
+    let e = under_end c.args.some (c.requires.ready_in, c.requires.s_value) c.bind-d.ensures c.args.pos c.part-x.ensures in
+    omega (arith, e.1, c.well_formed.0.0)
+
+pub under-returns : goal.under-returns
+under-returns t c = λ W. under_done c.args.some (W, c.requires.s_value) c.bind-d.ensures c.args.pos c.part-x.ensures c.quant_kind-kind.ensures (c.chain.ensures _)

@@ -1,20 +1,12 @@
-use Prim.Native.Nat.{ℕ, ◌-◌}
 use mathlib.Core.Path.{refl}
-use mathlib.Core.List.{List, ◌∷◌}
 use native.Mathlib.Omega.{arith}
 use lib.ListN.{length-set}
 use Rattle.read_rule.specs.Bound.{ends_in}
-use Rattle.read_rule.specs.declared.Scope.{Scope}
-use Rattle.rule_rewrite.specs.declared.Bound.{Bound}
-use Rattle.rule_rewrite.specs.Ready.{ListReady, Opened}
+use Rattle.rule_rewrite.specs.Ready.{ListReady}
 use Rattle.rule_rewrite.proofs.Words.{Front, list_in, list_front, list_next, bind_last, bind_again}
 use borrow.Author.Rules.{rules}
 use Rattle.rule_rewrite.proofs.bind.Goals as goal
 use Rattle.rule_rewrite.proofs.bind.Goals.{After-past_type-end}
-
--- r is the scope with the variables of the list at `at`, and their sorts after those that were noted before
-abbrev Opens : List ℕ → ℕ → List (List ℕ) → Scope → List ℕ → Bound → Type 0
-Opens s at types sc before r = (w : ListReady s at sc) → Opened s at types sc before (w.q ∷ w.qs) r
 
 -- the variable that is found, in any list that stands there, and in the invariant's
 front : (c : After-past_type-end) → (w : ListReady c.args.s.now c.loop-inner.i c.loop-inner.inner) → Front _ _ _ w c.run-e.result c.past_type-end.result

@@ -1,21 +1,11 @@
-use Prim.Native.Nat.{ℕ, ◌-◌}
-use mathlib.Core.Path.{◌≡◌, refl, ap}
-use mathlib.Core.Bool.{Bool}
-use mathlib.Core.List.{List, [], ◌∷◌, ◌++◌}
+use mathlib.Core.Path.{refl, ap}
+use mathlib.Core.List.{[], ◌∷◌, ◌++◌}
 use native.Mathlib.Omega.{arith}
 use lib.ListN.{length}
-use Rattle.read_rule.specs.declared.Scope.{Scope}
-use Rattle.rule_nodes.specs.declared.Row.{Row}
-use Rattle.rule_nodes.specs.Postorder.{leaf_row}
-use Rattle.rule_rewrite.specs.declared.Leaf.{Leaf}
-use Rattle.rule_rewrite.specs.Ready.{VarsReady, Filled}
+use Rattle.rule_rewrite.specs.Ready.{VarsReady}
 use Rattle.rule_rewrite.proofs.Words.{More, vars_in, vars_more, fill_none, fill_more}
 use Rattle.rule_rewrite.proofs.fill.Goals as goal
 use Rattle.rule_rewrite.proofs.fill.Goals.{After-run-e}
-
--- r is the row with the levels of the variables at `at`, whatever literal the row is of
-abbrev Fills : List ℕ → ℕ → Scope → Row → Leaf → Type 0
-Fills s at sc row r = (p : Bool) (k : ℕ) (ls : List ℕ) (w : VarsReady s at sc row.width) → row ≡ leaf_row p k ls → Filled s at sc p k ls w.vs r
 
 -- the variable after a space, in any list that stands there
 one : (c : After-run-e) → let a = c.args in (w : VarsReady a.s.now c.loop-i.i a.sc c.loop-i.full.width)

@@ -30,19 +30,19 @@ positive-w-requires-2 c = record { in_bounds = sizes (goal.at.positive-w-require
 
 pub totalities-u-requires : goal.totalities-u-requires
 totalities-u-requires c =
-    (
-      (omega (arith, c.requires.accepted.sound.rels_le, c.requires.accepted.sound.chosen_le), c.positive-w-2.auto.1.1.1.1.1.1.0 ∙ c.requires.rows_len),
-      joined_left c.requires.accepted _ c.totalities-total.ensures.0 c.if-total-eq0.false c.positive-w-2.ensures,
-    )
+    record {
+      chosen_bound = (omega (arith, c.requires.accepted.sound.rels_le, c.requires.accepted.sound.chosen_le), c.positive-w-2.auto.rows ∙ c.requires.rows_len);
+      by_index = joined_left c.requires.accepted _ c.totalities-total.ensures.0 c.if-total-eq0.false c.positive-w-2.ensures;
+    }
 
 pub put_row-requires : goal.put_row-requires
-put_row-requires c = (c.totalities-u.auto.0 ∙ c.positive-w-2.auto.1.1.1.1.1.1.0 ∙ c.requires.rows_len, omega (arith, room (goal.at.put_row-requires c).After-totalities-u))
+put_row-requires c = (c.totalities-u.auto.rows ∙ c.positive-w-2.auto.rows ∙ c.requires.rows_len, omega (arith, room (goal.at.put_row-requires c).After-totalities-u))
 
 pub overflow_add-result : goal.overflow_add-result
 overflow_add-result c = omega (arith, room (goal.at.overflow_add-result c).After-totalities-u)
 
 pub shape_of-rows : goal.shape_of-rows
-shape_of-rows c = c.put_row.auto.0 ∙ c.totalities-u.auto.0 ∙ c.positive-w-2.auto.1.1.1.1.1.1.0
+shape_of-rows c = c.put_row.auto.rows ∙ c.totalities-u.auto.rows ∙ c.positive-w-2.auto.rows
 
 pub returns : goal.returns
 returns c =

@@ -1,5 +1,4 @@
 use mathlib.Core.Path.{refl, sym, ◌∙◌}
-use Prim.Native.Nat.{◌-◌}
 use native.Mathlib.Omega.{arith}
 use Rattle.rule_nodes.specs.Lent.{rows_many}
 use Rattle.rule_rewrite.proofs.Root.{left_start, left_space, left_nodes, left_again, left_end}
@@ -36,7 +35,7 @@ pub loop-i-smaller : goal.loop-i-smaller
 loop-i-smaller c = omega arith
 
 pub loop-i-preserved : goal.loop-i-preserved
-loop-i-preserved c = let h = c.loop-i.invariant in let r = c.totality_by_kind-u in (omega arith, h.1, left_again _ _ _ _ h.2 (omega (arith, h.1)) _ r.ensures, r.auto.0 ∙ h.3)
+loop-i-preserved c = let h = c.loop-i.invariant in let r = c.totality_by_kind-u in (omega arith, h.1, left_again _ _ _ _ h.2 (omega (arith, h.1)) _ r.ensures, r.auto.rows ∙ h.3)
 
 pub shape_of-rows : goal.shape_of-rows
 shape_of-rows c = c.loop-i.invariant.3 ∙ sym c.requires.chosen_bound.1

@@ -7,7 +7,7 @@ use Rattle.rule_rewrite.proofs.Root.{Left}
 use Rattle.rule_rewrite.proofs.totalities.Given as goal
 
 abbrev pub invariant-loop-i : goal.invariant-loop-i
-invariant-loop-i l =     (l.i ≤ l.end) × (l.end ≡ l.sig.rels + l.sig.chosen) × Left (rows_from l.initial.rows l.len l.nodes) (rows_from l.rows l.u.len l.u.nodes) l.sig l.i × (length l.rows ≡ 512)
+invariant-loop-i l = (l.i ≤ l.end) × (l.end ≡ l.sig.rels + l.sig.chosen) × Left (rows_from l.initial.rows l.len l.nodes) (rows_from l.rows l.u.len l.u.nodes) l.sig l.i × (length l.rows ≡ 512)
 
 abbrev pub decreases-loop-i : goal.decreases-loop-i
 decreases-loop-i l = l.end - l.i

@@ -29,16 +29,16 @@ loop-j-smaller c = omega (arith, c.requires.0.some)
 pub loop-j-preserved : goal.loop-j-preserved
 loop-j-preserved c =
     let l = c.loop-j in let d = c.advance in let q = c.requires in let r = row_on _ _ q.0.some l.invariant.6 in (
-  omega (arith, c.loop-j-test.true),
-  c.store.auto.0 ∙ l.invariant.1,
-  d.auto.1.1.0 ∙ l.invariant.2,
-  d.ensures.0,
-  d.ensures.1,
-  rw r.0 (d.ensures.2 _ l.invariant.5),
-  r.1,
-  λ p G F node N K. let I = l.invariant.7 p G F node N K in let M = chain_turn p G F _ _ node _ _ N _ _ _ refl q.0.some q.0.size _ _ _ _ c.members_word-members.ensures c.window-w.ensures _ (c.under_at-under.ensures.2 _ l.invariant.5 (omega (arith, q.4))) _ _ q.4 l.invariant.6
-      (omega (arith, c.loop-j-test.true)) c.chain-own.ensures (λ h. c.store.ensures (omega (arith, h, l.invariant.1))) I.0 in (M.0, λ i o. M.1 i o ∙ I.1 i o),
-)
+      omega (arith, c.loop-j-test.true),
+      c.store.auto.words ∙ l.invariant.1,
+      d.auto.digits ∙ l.invariant.2,
+      d.ensures.0,
+      d.ensures.1,
+      rw r.0 (d.ensures.2 _ l.invariant.5),
+      r.1,
+      λ p G F node N K. let I = l.invariant.7 p G F node N K in let M = chain_turn p G F _ _ node _ _ N _ _ _ refl q.0.some q.0.size _ _ _ _ c.members_word-members.ensures c.window-w.ensures _ (c.under_at-under.ensures.2 _ l.invariant.5 (omega (arith, q.4))) _ _ q.4 l.invariant.6
+          (omega (arith, c.loop-j-test.true)) c.chain-own.ensures (λ h. c.store.ensures (omega (arith, h, l.invariant.1))) I.0 in (M.0, λ i o. M.1 i o ∙ I.1 i o),
+    )
 
 pub shape_of-state : goal.shape_of-state
 shape_of-state c = c.loop-j.invariant.1

@@ -21,15 +21,15 @@ window-w-requires c = let u = c.under_at-under.ensures in (u.0, u.1, c.requires.
 pub loop-row-preserved : goal.loop-row-preserved
 loop-row-preserved c =
     let l = c.loop-row in let d = c.advance in let q = c.requires in (
-  omega arith,
-  c.store.auto.0 ∙ l.invariant.1,
-  d.auto.1.1.0 ∙ l.invariant.2,
-  d.ensures.0,
-  d.ensures.1,
-  d.ensures.2 _ l.invariant.5,
-  λ p G F node N K. let I = l.invariant.6 p G F node N K in let M = meet_turn p G F _ _ node _ _ N _ _ _ refl q.0.some q.0.size _ _ _ _ c.members_word-members.ensures c.window-w.ensures _ (c.under_at-under.ensures.2 _ l.invariant.5 (omega (arith, q.4))) _ q.4
-      (omega arith) c.meets-own.ensures (λ h. c.store.ensures (omega (arith, h, l.invariant.1))) I.0 in (M.0, λ i o. M.1 i o ∙ I.1 i o),
-)
+      omega arith,
+      c.store.auto.words ∙ l.invariant.1,
+      d.auto.digits ∙ l.invariant.2,
+      d.ensures.0,
+      d.ensures.1,
+      d.ensures.2 _ l.invariant.5,
+      λ p G F node N K. let I = l.invariant.6 p G F node N K in let M = meet_turn p G F _ _ node _ _ N _ _ _ refl q.0.some q.0.size _ _ _ _ c.members_word-members.ensures c.window-w.ensures _ (c.under_at-under.ensures.2 _ l.invariant.5 (omega (arith, q.4))) _ q.4
+          (omega arith) c.meets-own.ensures (λ h. c.store.ensures (omega (arith, h, l.invariant.1))) I.0 in (M.0, λ i o. M.1 i o ∙ I.1 i o),
+    )
 
 pub shape_of-state : goal.shape_of-state
 shape_of-state c = c.loop-row.invariant.1

@@ -17,14 +17,14 @@ fill_node-requires c = (c.requires.0, omega (arith, c.requires.2), omega (arith,
 pub loop-v-preserved : goal.loop-v-preserved
 loop-v-preserved c =
     let l = c.loop-v in let q = c.requires in (
-  omega arith,
-  omega arith,
-  atoms_few _ _ _ q.0 c.node_line-line.ensures,
-  c.fill_node.auto.0 ∙ l.invariant.3,
-  λ p G F R h e K.
-      let I = l.invariant.4 p G F R h e K in
-      let M = node_turn p G F _ l.v _ _ _ _ _ c.node_line-line.ensures (omega arith) (omega arith) (record { is = R.is; room = omega (arith, R.room, l.invariant.3) }) I.0 c.gap-width.ensures c.fill_node.ensures I.1.0 in (M.0, (M.1.0, λ i o. M.1.1 i o ∙ I.1.1 i o)),
-)
+      omega arith,
+      omega arith,
+      atoms_few _ _ _ q.0 c.node_line-line.ensures,
+      c.fill_node.auto.state ∙ l.invariant.3,
+      λ p G F R h e K.
+          let I = l.invariant.4 p G F R h e K in
+          let M = node_turn p G F _ l.v _ _ _ _ _ c.node_line-line.ensures (omega arith) (omega arith) (record { is = R.is; room = omega (arith, R.room, l.invariant.3) }) I.0 c.gap-width.ensures c.fill_node.ensures I.1.0 in (M.0, (M.1.0, λ i o. M.1.1 i o ∙ I.1.1 i o)),
+    )
 
 pub shape_of-state : goal.shape_of-state
 shape_of-state c = c.loop-v.invariant.3

@@ -21,7 +21,7 @@ pub loop-row-init : goal.loop-row-init
 loop-row-init c = let z = zero-div (size_in c.args.table.now) in (omega arith, refl, rw (z, zero-mul), λ p G F node N K. (K, λ i o. refl))
 
 pub values_of-env-requires : goal.values_of-env-requires
-values_of-env-requires c = let q = c.requires in ((q.0.some, q.1.width), q.1.levels)
+values_of-env-requires c = let q = c.requires in record { n_nonzero = (q.0.some, q.1.width); levels = q.1.levels }
 
 pub parts_word-own-requires : goal.parts_word-own-requires
 parts_word-own-requires c = let q = c.requires in (q.0, q.1.parts, within_most _ c.values_of-env.result q.0.size c.values_of-env.ensures.1, q.1.levels _, q.0.size)
@@ -35,12 +35,12 @@ loop-row-smaller c = omega (arith, c.requires.0.some)
 pub loop-row-preserved : goal.loop-row-preserved
 loop-row-preserved c =
     let l = c.loop-row in let q = c.requires in let r = row_on _ _ q.0.some l.invariant.2 in (
-  omega (arith, c.loop-row-test.true),
-  c.store.auto.0 ∙ l.invariant.1,
-  r.1,
-  λ p G F node N K. let I = l.invariant.3 p G F node N K in let M = part_turn p G F _ _ node _ _ N _ _ _ refl q.3 _ refl q.0.some _ _ _ _ _ q.4 refl l.invariant.2 (omega (arith, c.loop-row-test.true)) (c.values_of-env.ensures.0 ∙ row_values_lem _ _ _) c.parts_word-own.ensures
-      (λ h. c.store.ensures (omega (arith, h, l.invariant.1))) I.0 in (M.0, λ i o. M.1 i o ∙ I.1 i o),
-)
+      omega (arith, c.loop-row-test.true),
+      c.store.auto.words ∙ l.invariant.1,
+      r.1,
+      λ p G F node N K. let I = l.invariant.3 p G F node N K in let M = part_turn p G F _ _ node _ _ N _ _ _ refl q.3 _ refl q.0.some _ _ _ _ _ q.4 refl l.invariant.2 (omega (arith, c.loop-row-test.true)) (c.values_of-env.ensures.0 ∙ row_values_lem _ _ _) c.parts_word-own.ensures
+          (λ h. c.store.ensures (omega (arith, h, l.invariant.1))) I.0 in (M.0, λ i o. M.1 i o ∙ I.1 i o),
+    )
 
 pub shape_of-state : goal.shape_of-state
 shape_of-state c = c.loop-row.invariant.1

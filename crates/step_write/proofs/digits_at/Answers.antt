@@ -20,13 +20,13 @@ loop-i-smaller c = omega arith
 pub loop-i-preserved : goal.loop-i-preserved
 loop-i-preserved c =
     let l = c.loop-i in let a = c.args in let q = c.requires in (
-  omega arith,
-  simp length-set l.invariant.1,
-  within_set a.n l.digits _ _ (mod-lt _ q.0) l.invariant.2,
-  rest_set a.width (l.i - 1) _ l.digits (omega arith) l.invariant.3,
-  left_next _ _ _ _ _ (omega arith) l.invariant.0 l.invariant.4,
-  later_next a.n a.width a.row l.i l.rest (omega arith) l.invariant.0 l.invariant.4 l.digits (omega (arith, l.invariant.1, q.3)) l.invariant.5,
-)
+      omega arith,
+      simp length-set l.invariant.1,
+      within_set a.n l.digits _ _ (mod-lt _ q.0) l.invariant.2,
+      rest_set a.width (l.i - 1) _ l.digits (omega arith) l.invariant.3,
+      left_next _ _ _ _ _ (omega arith) l.invariant.0 l.invariant.4,
+      later_next a.n a.width a.row l.i l.rest (omega arith) l.invariant.0 l.invariant.4 l.digits (omega (arith, l.invariant.1, q.3)) l.invariant.5,
+    )
 
 pub shape_of-digits : goal.shape_of-digits
 shape_of-digits c = c.loop-i.invariant.1

@@ -16,8 +16,8 @@ overflow_add-j c = omega (arith, c.lowest-2.ensures, first_le (digit c.word_at-t
 pub returns : goal.returns
 returns c =
     let m = c.least-2.ensures in let w = c.next_word-j in (
-  omega (arith, m, w.ensures.0),
-  omega (arith, m),
-  none_there _ _ _ c.cut-here.ensures c.if-here-ne0.false _ (λ k l u. w.ensures.2 k (omega arith) u)
-      _ _ c.word_at-there.ensures (omega (arith, m, c.lowest-2.ensures)),
-)
+      omega (arith, m, w.ensures.0),
+      omega (arith, m),
+      none_there _ _ _ c.cut-here.ensures c.if-here-ne0.false _ (λ k l u. w.ensures.2 k (omega arith) u)
+          _ _ c.word_at-there.ensures (omega (arith, m, c.lowest-2.ensures)),
+    )

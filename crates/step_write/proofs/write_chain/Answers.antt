@@ -25,11 +25,11 @@ write_link-k-requires c = let q = c.requires in omega (arith, q.6, q.2)
 pub loop-i-preserved : goal.loop-i-preserved
 loop-i-preserved c =
     let l = c.loop-i in let q = c.write_link-k in (
-  omega arith,
-  omega (arith, q.ensures.0),
-  q.auto.1.0 ∙ l.invariant.2,
-  λ p G F node width row R e ej ea h. links_more p G F _ node _ width _ R e row _ _ _ refl ej ea h l.i (omega arith) _ _ _ _ _ _ (l.invariant.3 p G F node width row R e ej ea h) q.ensures.1,
-)
+      omega arith,
+      omega (arith, q.ensures.0),
+      q.auto.steps ∙ l.invariant.2,
+      λ p G F node width row R e ej ea h. links_more p G F _ node _ width _ R e row _ _ _ refl ej ea h l.i (omega arith) _ _ _ _ _ _ (l.invariant.3 p G F node width row R e ej ea h) q.ensures.1,
+    )
 
 pub shape_of-steps : goal.shape_of-steps
 shape_of-steps c = c.loop-i.invariant.2

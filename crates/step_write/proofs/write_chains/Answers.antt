@@ -67,7 +67,7 @@ loop-j-preserved c =
     let l = c.loop-j in let q = c.requires in let f = c.write_chain-k in let r = row_on _ _ q.0.some l.invariant.3 in (
       omega (arith, c.loop-j-test.true),
       omega (arith, f.ensures.0, l.invariant.1, c.if-n-v.false),
-      f.auto.1.0 ∙ l.invariant.2,
+      f.auto.steps ∙ l.invariant.2,
       r.1,
       acts_on _ _ _ _ _ l.invariant.4 r.0,
       λ p G F node width R h whole. let I = l.invariant.5 p G F node width R h whole in

@@ -19,7 +19,7 @@ loop-v-preserved c =
       omega arith,
       atoms_few _ _ _ q.0 c.node_line-line.ensures,
       omega (arith, w.ensures.0, c.gap-width.ensures),
-      w.auto.1.0 ∙ l.invariant.3,
+      w.auto.steps ∙ l.invariant.3,
       λ p G F R h e.
           let I = l.invariant.4 p G F R h e in
           let B = read_before p G F _ l.v _ _ _ _ R c.node_line-line.ensures (omega arith) (omega arith) I.0 c.gap-width.ensures in

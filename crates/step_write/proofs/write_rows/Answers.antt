@@ -18,7 +18,7 @@ digits_at-requires c = let q = c.requires in (q.0.some, omega (arith, q.0.size),
 
 -- src/lib.rt:131:5
 pub loop-row-init : goal.loop-row-init
-loop-row-init c = let d = c.digits_at in (omega arith, c.requires.5, omega arith, refl, d.auto.1.1.1.0, d.ensures.0, d.ensures.1, d.ensures.2, λ p G F node width R h. rows_none p F node _ _ _)
+loop-row-init c = let d = c.digits_at in (omega arith, c.requires.5, omega arith, refl, d.auto.digits, d.ensures.0, d.ensures.1, d.ensures.2, λ p G F node width R h. rows_none p F node _ _ _)
 
 -- src/lib.rt:132:9
 pub write_row-k-requires : goal.write_row-k-requires
@@ -43,8 +43,8 @@ loop-row-preserved c =
       omega (arith, f.0),
       f.1,
       omega (arith, q.ensures.0, f.0),
-      q.auto.1.0 ∙ l.invariant.3,
-      d.auto.1.1.1.1.0 ∙ l.invariant.4,
+      q.auto.steps ∙ l.invariant.3,
+      d.auto.digits ∙ l.invariant.4,
       d.ensures.0,
       d.ensures.1,
       d.ensures.2 l.invariant.7,
