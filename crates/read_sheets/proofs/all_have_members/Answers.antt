@@ -2,10 +2,12 @@ use Prim.Native.Nat.{◌-◌}
 use mathlib.Core.Path.{refl, sym, ◌∙◌}
 use mathlib.Core.Bool.{true}
 use native.Mathlib.Omega.{arith}
+use Rattle.definitions.specs.Lists.{all, from, below}
 use Rattle.read_sheets.proofs.Loops.{no_member, a_member, each_next, each_fails, each_end}
 use Rattle.read_sheets.proofs.all_have_members.Goals as goal
 
 pub loop-k-init : goal.loop-k-init
+unfolding all from below
 loop-k-init c = (omega arith, λ n ms few M. refl)
 
 pub returns-then-ones-eq0 : goal.returns-then-ones-eq0
