@@ -1,5 +1,6 @@
 // The lines of a plan (document 02, job 11): steps by their numbers as actions with objects.
 #![tactic(auto)]
+
 ghost use Rattle.std.specs.Prelude.{◌≡◌, List, ℕ, ◌≤◌, ◌<◌, length, take};
 ghost use Rattle.std.proofs.Math.Option.{some};
 ghost use Rattle.definitions.specs.Lists.{flat_map};

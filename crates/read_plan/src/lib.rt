@@ -1,5 +1,6 @@
 // The lines of a plan (document 02, job 11): their form, how many there are, and the step that each is.
 #![tactic(auto)]
+
 ghost use Rattle.std.specs.Prelude.{◌≡◌, false, List, ℕ, ◌+◌, ◌^◌, ◌≤◌, ◌<◌, length, take, set};
 ghost use Rattle.std.proofs.Math.Seq.{slice};
 ghost use Rattle.definitions.specs.Lists.{all, is_some, same};

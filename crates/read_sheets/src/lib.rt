@@ -1,6 +1,7 @@
 // The readers of the site, of picks and of steps: a value, or the refusal's number and place (1 to 3, 7, 19, 9, 18, 10); and of a case,
 // which is a question and a site.
 #![tactic(auto)]
+
 ghost use Rattle.std.specs.Prelude.{◌≡◌, true, false, List, ℕ, ◌+◌, ◌*◌, ◌≤◌, length, set as «set_at»};
 ghost use Rattle.bits.specs.Table.{bit};
 ghost use Rattle.definitions.specs.Limits.{CaseLimits};

@@ -24,8 +24,7 @@ pub loop-j-smaller : goal.loop-j-smaller
 loop-j-smaller c = omega (arith, c.loop-j.invariant.1)
 
 pub loop-j-preserved : goal.loop-j-preserved
-loop-j-preserved c =
-    (
+loop-j-preserved c = (
   omega (arith, c.loop-j.invariant.0, c.loop-j.invariant.1),
   omega (arith, c.find-j-then-is_word.ensures),
   omega (arith, c.find-j-then-is_word.ensures, end_within 32 (c.loop-j.j + 1) c.args.e c.args.s.now (omega arith) c.requires.1),

@@ -31,8 +31,7 @@ pub loop-at-smaller : goal.loop-at-smaller
 loop-at-smaller c = omega (arith, c.find-e.ensures)
 
 pub loop-at-preserved : goal.loop-at-preserved
-loop-at-preserved c =
-    (
+loop-at-preserved c = (
   omega (arith, c.find-e.ensures, end_within 10 c.loop-at.at (length c.args.s.now) c.args.s.now (omega arith) (omega arith)),
   omega (arith, c.find-e.ensures, c.loop-at.invariant.1),
   c.loop-at.invariant.2,

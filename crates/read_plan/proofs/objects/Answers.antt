@@ -46,8 +46,7 @@ pub loop-at-smaller : goal.loop-at-smaller
 loop-at-smaller c = omega (arith, c.find-f.ensures)
 
 pub loop-at-preserved : goal.loop-at-preserved
-loop-at-preserved c =
-    (
+loop-at-preserved c = (
   omega (arith, c.find-f.ensures, end_within 32 (c.loop-at.at + 1) c.args.e c.args.s.now (omega arith) c.requires.0),
   gathered_next _ _ _ _ c.loop-at.at c.find-f.result c.loop-at.count _ c.loop-at.invariant.1 (omega arith) c.requires.0 c.find-f.ensures _ c.object-x.ensures.1 (omega (arith, c.object-x.ensures.0, c.if-x-n.false)) (omega (arith, c.loop-at.invariant.1.few, c.if-count-eq6.false)),
   within_set c.args.n c.loop-at.values c.loop-at.count c.object-x.result (omega (arith, c.object-x.ensures.0, c.if-x-n.false)) c.loop-at.invariant.2,

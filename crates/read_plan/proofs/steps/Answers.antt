@@ -35,8 +35,7 @@ pub loop-at-smaller : goal.loop-at-smaller
 loop-at-smaller c = omega (arith, (line_whole _ _ _ c.args.s.now _ c.loop-at.at c.loop-at.count _ c.loop-at.invariant.5 c.find-e.result (omega arith) c.find-e.ensures c.requires.posed.0 c.requires.posed.1 c.requires.s_value.0 c.requires.s_value.1).0, (line_whole _ _ _ c.args.s.now _ c.loop-at.at c.loop-at.count _ c.loop-at.invariant.5 c.find-e.result (omega arith) c.find-e.ensures c.requires.posed.0 c.requires.posed.1 c.requires.s_value.0 c.requires.s_value.1).1)
 
 pub loop-at-preserved : goal.loop-at-preserved
-loop-at-preserved c =
-    (
+loop-at-preserved c = (
   omega (arith, (line_whole _ _ _ c.args.s.now _ c.loop-at.at c.loop-at.count _ c.loop-at.invariant.5 c.find-e.result (omega arith) c.find-e.ensures c.requires.posed.0 c.requires.posed.1 c.requires.s_value.0 c.requires.s_value.1).0),
   omega (arith, (line_whole _ _ _ c.args.s.now _ c.loop-at.at c.loop-at.count _ c.loop-at.invariant.5 c.find-e.result (omega arith) c.find-e.ensures c.requires.posed.0 c.requires.posed.1 c.requires.s_value.0 c.requires.s_value.1).1, c.loop-at.invariant.1),
   c.loop-at.invariant.2,

@@ -14,10 +14,7 @@ loop-at-init c = (omega arith, omega arith, refl, λ ls K. picks_start _ _ _ ls 
 
 pub picks_turn-c-requires : goal.picks_turn-c-requires
 picks_turn-c-requires c =
-    let g = c.args.g in let known = c.requires.sound_signature in (
-      (sound_few _ g g.rels g.chosen known.0 (omega arith), known.1, rw c.loop-at.invariant.2 known.2),
-      (c.requires.labels_are, (_, c.line-l.ensures.3)),
-    )
+    let g = c.args.g in let known = c.requires.sound_signature in record { few_arities = (sound_few _ g g.rels g.chosen known.0 (omega arith), known.1, rw c.loop-at.invariant.2 known.2); by_index = (c.requires.labels_are, (_, c.line-l.ensures.3)) }
 
 pub returns-then-c-ne0 : goal.returns-then-c-ne0
 returns-then-c-ne0 c =

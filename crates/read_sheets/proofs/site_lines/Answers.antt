@@ -15,10 +15,7 @@ loop-at-init c = let p = c.requires in (omega arith, refl, refl, refl, λ L e. s
 pub site_turn-t-requires : goal.site_turn-t-requires
 site_turn-t-requires c =
     let g = c.args.g in let p = c.requires in let most = up_to c.args.most in
-    let so_far = c.loop-at.invariant in let read = so_far.4 most refl in (
-      (sound_few _ g 0 g.rels p.0 (omega arith), p.1, size_small most _ _ _ _ _ _ _ _ read, λ h. rw so_far.1 (so_far.6 h)),
-      ((p.0.types_le, omega (arith, so_far.3, p.4.room)), (labels_so_far most _ _ _ _ _ _ _ _ read, (_, c.line-l.ensures.3))),
-    )
+    let so_far = c.loop-at.invariant in let read = so_far.4 most refl in record { few_arities = (sound_few _ g 0 g.rels p.0 (omega arith), p.1, size_small most _ _ _ _ _ _ _ _ read, λ h. rw so_far.1 (so_far.6 h)); types_bound = (p.0.types_le, omega (arith, so_far.3, p.4.room)); by_index = (labels_so_far most _ _ _ _ _ _ _ _ read, (_, c.line-l.ensures.3)) }
 
 pub returns-in-Fault : goal.returns-in-Fault
 returns-in-Fault c =

@@ -10,7 +10,7 @@ use Rattle.read_sheets.proofs.Loops.{SiteAt}
 use Rattle.read_sheets.proofs.site_lines.Given as goal
 
 abbrev pub invariant-loop-at : goal.invariant-loop-at
-invariant-loop-at l =     (l.at ≤ length l.s) × (length l.table ≡ length l.initial.table) × (length l.labels ≡ length l.initial.labels) × (length l.members ≡ length l.initial.members) ×
+invariant-loop-at l = (l.at ≤ length l.s) × (length l.table ≡ length l.initial.table) × (length l.labels ≡ length l.initial.labels) × (length l.members ≡ length l.initial.members) ×
     ((L : CaseLimits) → L.elements ≡ l.most → SiteAt L l.q l.g l.s l.at l.st l.labels l.members l.table)
     × (l.st.n ≡ 0 → l.at ≡ 0) × ((l.st.n ≡ 0 → ⊥) → Roomy l.g.from l.g.to l.g.arity 0 l.g.rels l.st.n (length l.initial.table))
 

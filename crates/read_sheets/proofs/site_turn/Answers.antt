@@ -22,7 +22,7 @@ member-c-requires c =
     let known = c.requires in let f : length c.args.from.now ≡ 21 = search rules in let t : length c.args.to.now ≡ 21 = search rules in
     let b = in_member _ _ _ known.by_index.1.1 _ _ _ _ c.in-Member.is in
     rw c.member_line-m.ensures
-    ((known.types_bound.0, omega (arith, f), omega (arith, t), omega (arith, known.few_arities.1, known.few_arities.2), known.types_bound.1, b.1, b.2), known.by_index.0)
+    record { types_bound = (known.types_bound.0, omega (arith, f), omega (arith, t), omega (arith, known.few_arities.1, known.few_arities.2), known.types_bound.1, b.1, b.2); labels_are = known.by_index.0 }
 
 pub returns-then-st-eq0 : goal.returns-then-st-eq0
 returns-then-st-eq0 c = λ L e g z y. fact_early _ _ _ _ _ _ _ _ _ _ _ _ _ _ _ _ c.in-Fact.is c.if-st-eq0.true
@@ -33,7 +33,7 @@ add-c-requires c =
     let f : length c.args.from.now ≡ 21 = search rules in let t : length c.args.to.now ≡ 21 = search rules in
     let d : length c.args.arity.now ≡ 13 = search rules in
     rw c.fact_line-f.ensures
-    ((arrays_of _ _ _ _ _ known.few_arities.0 f t d, omega (arith, known.few_arities.1, known.few_arities.2), known.few_arities.3 c.if-st-eq0.false), (fact, known.by_index.0))
+    record { arrays = (arrays_of _ _ _ _ _ known.few_arities.0 f t d, omega (arith, known.few_arities.1, known.few_arities.2), known.few_arities.3 c.if-st-eq0.false); fielded = (fact, known.by_index.0) }
 
 pub returns-in-Wrong : goal.returns-in-Wrong
 returns-in-Wrong c = search (rules, site_wrong)

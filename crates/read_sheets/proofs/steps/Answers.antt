@@ -29,7 +29,7 @@ loop-at-preserved c =
     let l = c.loop-at in let line = c.line-l.ensures in let step = sym c.judge-v.ensures ∙ c.in-Number.is in (
       line.1,
       omega (arith, line.0),
-      c.put.auto.0 ∙ l.invariant.2,
+      c.put.auto.out ∙ l.invariant.2,
       reach_number _ _ _ l.invariant.3 _ _ _ line.2 step,
       λ w. rw c.put.ensures (write_number _ _ _ _ _ w (l.invariant.4 w) _ _ _ line.2 step),
     )
