@@ -1,5 +1,6 @@
 // The words of a domain and an instance (document 02, job 11): terms and predicates, an atom of them in brackets, and a line with one.
 #![tactic(auto)]
+
 ghost use Rattle.std.specs.Prelude.{◌≡◌, [], ◌∷◌, ◌++◌, map, ◌+◌, ◌≤◌, ◌<◌};
 ghost use Rattle.definitions.specs.Lists.{below};
 ghost use Rattle.definitions.specs.Reply.Pddl.{parameter_word, term_word, indented};

@@ -6,11 +6,11 @@ use Prim.Native.Nat.{◌^◌, ◌<◌}
 use lib.ListN.{length}
 use Rattle.print_bytes.specs.Emitted.{begin, next as then, finish}
 use Rattle.print_words.proofs.parameter_word.Goals as goal
-use Rattle.print_words.proofs.parameter_word.Goals.{After-slice_known-1, Start}
+use Rattle.print_words.proofs.parameter_word.Goals.{Start}
 
 short : (c : Start) → (length c.args.out.now < 2 ^ 64) × (c.args.at < 2 ^ 64)
 short c = (omega arith, omega arith)
 
 pub returns : goal.returns
 unfolding parameter_word
-returns c = finish _ (then _ _ (begin _ refl (short (goal.at.returns c).After-slice_known-1).0 (short (goal.at.returns c).After-slice_known-1).1) c.text-begun.ensures) c.decimal.ensures
+returns c = finish _ (then _ _ (begin _ refl (short (goal.at.returns c).Start).0 (short (goal.at.returns c).Start).1) c.text-begun.ensures) c.decimal.ensures
