@@ -1,6 +1,7 @@
 // From a case that was read to the table of its numbered problem, or refusal 11 or 23. The relations are numbered on the way: the built-in
 // ones first, then those declared.
 #![tactic(auto)]
+
 ghost use Rattle.std.specs.Prelude.{◌≡◌, ℕ, ◌+◌, ◌≤◌, ◌<◌, Bool, length};
 ghost use Rattle.definitions.specs.Problem.Truth.{Case};
 ghost use Rattle.definitions.specs.Reply.Outcome.{ground as «ground_of»};

@@ -1,6 +1,7 @@
 // Picks as bits in lent words, each `choose` from a new word on: how many words they have, whether they are of the declared kinds, cut
 // out of the state that steps leave, and whether a bit is set past those of the tuples.
 #![tactic(auto)]
+
 ghost use Rattle.std.specs.Prelude.{◌≡◌, not, ◌&&◌, ◌+◌, ◌-◌, ◌*◌, ◌^◌, ◌<◌, ◌≤◌, length};
 ghost use Rattle.std.proofs.lemmas.List.Edits.{sets};
 ghost use Rattle.definitions.specs.Lists.{any, position, below, is_in};

@@ -1,5 +1,6 @@
 // The initial state of a grounded problem, written into a lent table of words.
 #![tactic(auto)]
+
 ghost use Rattle.std.specs.Prelude.{◌≡◌, ℕ, ◌+◌, ◌*◌, ◌^◌, ◌<◌, ◌≤◌, length};
 ghost use Rattle.definitions.specs.Problem.Atoms.{words_for};
 ghost use Rattle.bits.specs.Table.{digit, bit, paste, turned};

@@ -41,7 +41,7 @@ pub loop-r-preserved : goal.loop-r-preserved
 loop-r-preserved c =
     let copy-relation = c.copy_relation in let relation-line = c.relation_line-line in let if1 = c.loop-r-test in (
       omega arith,
-      copy-relation.auto.1.1.0 ∙ c.loop-r.invariant.1,
+      copy-relation.auto.picks ∙ c.loop-r.invariant.1,
       omega (arith, c.loop-r.invariant.2, c.words_in-word.ensures, count_next _ _ _ c.loop-r.word _ relation-line.ensures if1.true),
       c.loop-r.invariant.3 ∙ copy_next _ _ _ _ _ _ _ _ _ relation-line.ensures if1.true copy-relation.ensures c.words_in-word.ensures,
       c.loop-r.invariant.4,

@@ -10,7 +10,7 @@ use Rattle.step_picks.specs.CopyLaws.{words_past}
 use Rattle.step_picks.proofs.copy_relation.Given as goal
 
 abbrev pub invariant-loop-j : goal.invariant-loop-j
-invariant-loop-j l =     (l.j ≤ l.count) × (length l.picks ≡ length l.initial.picks)
+invariant-loop-j l = (l.j ≤ l.count) × (length l.picks ≡ length l.initial.picks)
     × (sets l.initial.picks l.word (line_words (bit l.state) l.line) ≡ sets l.picks (l.word + l.j) (words_past (bit l.state) l.line l.j (l.count - l.j)))
     × (l.tuples ≡ l.line.nots - l.line.tuples) × (l.count ≡ words_in l.line)
 

@@ -26,14 +26,13 @@ pub loop-r-smaller : goal.loop-r-smaller
 loop-r-smaller c = omega arith
 
 pub loop-r-preserved : goal.loop-r-preserved
-loop-r-preserved c =
-    (
-      omega arith,
-      omega (arith, c.words_in-sum.ensures, (words_few _ _ c.requires _ c.relation_line-line.ensures).3),
-      omega (arith, c.loop-r.invariant.2, c.words_in-sum.ensures, count_next _ _ _ c.loop-r.sum _ c.relation_line-line.ensures c.loop-r-test.true),
-      c.loop-r.invariant.3,
-      c.loop-r.invariant.4,
-    )
+loop-r-preserved c = (
+  omega arith,
+  omega (arith, c.words_in-sum.ensures, (words_few _ _ c.requires _ c.relation_line-line.ensures).3),
+  omega (arith, c.loop-r.invariant.2, c.words_in-sum.ensures, count_next _ _ _ c.loop-r.sum _ c.relation_line-line.ensures c.loop-r-test.true),
+  c.loop-r.invariant.3,
+  c.loop-r.invariant.4,
+)
 
 pub returns : goal.returns
 returns c =

@@ -12,7 +12,7 @@ use Rattle.step_picks.specs.Spare.{spare_from}
 use Rattle.step_picks.proofs.spare_word.Given as goal
 
 abbrev pub invariant-loop-r : goal.invariant-loop-r
-invariant-loop-r l =     (l.r ≤ relations_in l.table) × (l.word ≤ l.r * 2 ^ 27) × ((p : Problem) → Is p l.table → spare_word p l.picks 0 (chosen_numbers p) ≡ spare_from p l.picks l.r l.word)
+invariant-loop-r l = (l.r ≤ relations_in l.table) × (l.word ≤ l.r * 2 ^ 27) × ((p : Problem) → Is p l.table → spare_word p l.picks 0 (chosen_numbers p) ≡ spare_from p l.picks l.r l.word)
     × (relations_in l.table ≤ 18) × (length l.table ≡ table_length)
 
 abbrev pub decreases-loop-r : goal.decreases-loop-r

@@ -1,4 +1,5 @@
 -- `step_start::initial_state` meets its contract.
+use borrow.Author.Rules.{rules}
 use Rattle.problem_table.specs.ChangeLaws.{put_raise}
 use Rattle.step_start.specs.InitialLaws.{begun}
 use Rattle.step_start.specs.RowLaws.{atoms_few, atoms_words, every_few}
@@ -13,20 +14,20 @@ overflow_mul-count c = omega (arith, c.every_tuples-count.ensures, every_few _ c
 pub overflow_add-end : goal.overflow_add-end
 overflow_add-end c =
     omega (
-  arith,
-  c.every_tuples-count.ensures,
-  every_few _ c.requires.fits,
-  atoms_few _ _ c.node_line-end.ensures c.requires.fits,
-)
+      arith,
+      c.every_tuples-count.ensures,
+      every_few _ c.requires.fits,
+      atoms_few _ _ c.node_line-end.ensures c.requires.fits,
+    )
 
 pub overflow_add-end-2 : goal.overflow_add-end-2
 overflow_add-end-2 c =
     omega (
-  arith,
-  c.every_tuples-count.ensures,
-  every_few _ c.requires.fits,
-  atoms_few _ _ c.node_line-end.ensures c.requires.fits,
-)
+      arith,
+      c.every_tuples-count.ensures,
+      every_few _ c.requires.fits,
+      atoms_few _ _ c.node_line-end.ensures c.requires.fits,
+    )
 
 pub fill-requires : goal.fill-requires
 fill-requires c = omega (arith, atoms_words _ _ c.node_line-end.ensures _ c.every_tuples-count.ensures, c.requires.table_in_bounds)
@@ -34,11 +35,7 @@ fill-requires c = omega (arith, atoms_words _ _ c.node_line-end.ensures _ c.ever
 pub returns : goal.returns
 returns c =
     let p = c.put_relations in let r = c.raise in let f = c.fill in let s = c.requires in let m = atoms_words _ _ c.node_line-end.ensures _ c.every_tuples-count.ensures in
-    begun _ _ _ _ _ s.fits (λ j. omega (
-      arith,
-      c.type_inv.state
-          j,
-    )) (λ j. omega (arith, c.type_inv.state j))
-    (p.auto.0 ∙ r.auto.0 ∙ f.auto.0) m (omega (arith, m, s.table_in_bounds)) f.ensures.1
-    (λ h. r.ensures (omega (arith, f.auto.0)) ∙ sym (put_raise _ _))
-    (λ h. p.ensures (subst (Room _) (sym (r.auto.0 ∙ f.auto.0)) h))
+    begun _ _ _ _ _ s.fits (λ j. search rules) (λ j. omega (arith, c.type_inv.state j))
+    (p.auto.state ∙ r.auto.words ∙ f.auto.words) m (omega (arith, m, s.table_in_bounds)) f.ensures.1
+    (λ h. r.ensures (omega (arith, f.auto.words)) ∙ sym (put_raise _ _))
+    (λ h. p.ensures (subst (Room _) (sym (r.auto.words ∙ f.auto.words)) h))

@@ -33,7 +33,7 @@ loop-row-preserved c =
       omega (arith, m.ensures),
       omega (arith, m.ensures),
       λ h. let e : m.result ≡ a.n = omega (arith, m.ensures) in omega (arith, l.invariant.2 (omega arith), next_row l.x a.n),
-      w.auto.0 ∙ l.invariant.3,
+      w.auto.words ∙ l.invariant.3,
       λ h. paste_on _ _ _ 0 _ _ _
           (λ i u. t.ensures i (omega (arith, m.ensures)) ∙ ap (turned a.flip) (b.ensures i (omega (arith, m.ensures))) ∙ ap (λ (j : ℕ). turned a.flip (built_in_at a.n a.r (j + i))) (sym (zero-add l.row)))
           (l.invariant.4 h) (w.ensures (omega (arith, m.ensures, l.invariant.3))),

@@ -14,4 +14,4 @@ set_range-requires c =
 pub returns : goal.returns
 returns c =
     relation_put_lem _ _ _ _ _ _ _ _ c.relation_line-k.ensures c.free-count.ensures c.put_tuples.ensures
-    (λ q. c.set_range.ensures (omega (arith, c.put_tuples.auto.0)))
+    (λ q. c.set_range.ensures (omega (arith, c.put_tuples.auto.state)))

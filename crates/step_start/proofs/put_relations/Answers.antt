@@ -21,7 +21,7 @@ pub overflow_add-first : goal.overflow_add-first
 overflow_add-first c = let r = c.loop-r.r in omega (arith, c.requires.relations, c.loop-r.invariant.2, c.words-first.ensures, first_step c.args.table.now r, first_few _ c.requires (r + 1))
 
 pub loop-r-preserved : goal.loop-r-preserved
-loop-r-preserved c = let i = c.loop-r.invariant in let put = c.put_relation in (omega arith, put.auto.0 ∙ i.1, ap₂ ◌+◌ i.2 c.words-first.ensures ∙ first_step _ _, λ h. relations_step _ _ _ _ _ i.2 (i.3 h) (put.ensures (rw i.1 (h _ (omega arith)))))
+loop-r-preserved c = let i = c.loop-r.invariant in let put = c.put_relation in (omega arith, put.auto.state ∙ i.1, ap₂ ◌+◌ i.2 c.words-first.ensures ∙ first_step _ _, λ h. relations_step _ _ _ _ _ i.2 (i.3 h) (put.ensures (rw i.1 (h _ (omega arith)))))
 
 pub shape_of-state : goal.shape_of-state
 shape_of-state c = c.loop-r.invariant.1

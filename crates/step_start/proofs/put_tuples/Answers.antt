@@ -16,7 +16,7 @@ pub returns-then-r-lt5 : goal.returns-then-r-lt5
 returns-then-r-lt5 c =
     λ h.
     let a = c.args in let q = c.rows-count.ensures in let z = rows_some a.k (omega (arith, q)) in
-    tuples_count _ _ _ _ _ _ _ _ q (tuples_built _ _ _ _ _ _ _ (omega arith) (c.put_built_in.ensures (omega (arith, q, z))) (c.put_built_in-then-r-lt5.ensures (omega (arith, q, c.put_built_in.auto.0))))
+    tuples_count _ _ _ _ _ _ _ _ q (tuples_built _ _ _ _ _ _ _ (omega arith) (c.put_built_in.ensures (omega (arith, q, z))) (c.put_built_in-then-r-lt5.ensures (omega (arith, q, c.put_built_in.auto.state))))
 
 pub copy-requires : goal.copy-requires
 copy-requires c = let a = c.args in (omega arith, omega arith, omega (arith, c.rows-count.ensures, rows_le a.k))
@@ -28,7 +28,7 @@ pub returns-then-k-eq0 : goal.returns-then-k-eq0
 returns-then-k-eq0 c =
     λ h.
     let a = c.args in let q = c.rows-count.ensures in let z = rows_some a.k (omega (arith, q)) in
-    tuples_count _ _ _ _ _ _ _ _ q (tuples_facts _ _ _ _ _ _ _ (omega arith) (omega arith) (c.copy.ensures (omega (arith, q, z))) (c.copy-then-k-eq0.ensures (omega (arith, q, c.copy.auto.0))))
+    tuples_count _ _ _ _ _ _ _ _ q (tuples_facts _ _ _ _ _ _ _ (omega arith) (omega arith) (c.copy.ensures (omega (arith, q, z))) (c.copy-then-k-eq0.ensures (omega (arith, q, c.copy.auto.words))))
 
 pub set_range-requires : goal.set_range-requires
 set_range-requires c = let a = c.args in (omega arith, omega (arith, c.rows-count.ensures, rows_le a.k))
