@@ -1,5 +1,6 @@
 // The flat table of a case's relations alone: what is asked of lent picks (their words, spare bits, kinds) needs no node.
 #![tactic(auto)]
+
 ghost use Rattle.std.specs.Prelude.{◌≡◌, ◌<◌, ◌≤◌, length};
 ghost use Rattle.definitions.specs.Problem.Atoms.{Problem};
 ghost use Rattle.rows.specs.Values.{Most};

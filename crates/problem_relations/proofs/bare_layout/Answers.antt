@@ -16,39 +16,38 @@ power-size-requires c = (c.requires.0, pow_fits _ _ c.requires.1 (c.requires.2.a
 pub overflow_add-end : goal.overflow_add-end
 overflow_add-end c =
     omega (
-  arith,
-  size_most _ _ c.power-size.result
-      c.power-size.ensures c.requires.1
-      (c.requires.2.arity _),
-  c.requires.3.rel
-      c.args.g.count,
-)
+      arith,
+      size_most _ _ c.power-size.result
+          c.power-size.ensures c.requires.1
+          (c.requires.2.arity _),
+      c.requires.3.rel
+          c.args.g.count,
+    )
 
 pub overflow_add-size : goal.overflow_add-size
 overflow_add-size c =
     omega (
-  arith,
-  size_most _ _ c.power-size.result
-      c.power-size.ensures
-      c.requires.1
-      (c.requires.2.arity _),
-)
+      arith,
+      size_most _ _ c.power-size.result
+          c.power-size.ensures
+          c.requires.1
+          (c.requires.2.arity _),
+    )
 
 pub overflow_add-end-then-has_last : goal.overflow_add-end-then-has_last
 overflow_add-end-then-has_last c =
     omega (
-  arith,
-  size_most _ _ c.power-size.result
-      c.power-size.ensures
-      c.requires.1
-      (c.requires.2.arity _),
-  c.requires.3.rel
-      c.args.g.count,
-)
+      arith,
+      size_most _ _ c.power-size.result
+          c.power-size.ensures
+          c.requires.1
+          (c.requires.2.arity _),
+      c.requires.3.rel
+          c.args.g.count,
+    )
 
 pub returns-then-has_last : goal.returns-then-has_last
-returns-then-has_last c =
-    (
+returns-then-has_last c = (
   bare_here _ _ _ (sym c.has_last.ensures
       ∙ c.if-has_last.true) _ _ _
       c.power-size.ensures c.least.ensures
