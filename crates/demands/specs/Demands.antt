@@ -174,7 +174,7 @@ module _ (L : CaseLimits) (few : L.elements ≤ 64) (lendable : L.atoms ≤ step
   filed : FiledFits (record { case = c; labels = labels })
   filed = gives_if FiledFits (read_filed L question site) (record { case = c; labels = labels }) is_filed (filed_fits L few question site)
 
-  A : Accepted c
+  pub A : Accepted c
   A = filed.case_fits
 
   K : LabelsFit c.site.size labels
@@ -281,7 +281,7 @@ module _ (L : CaseLimits) (few : L.elements ≤ 64) (lendable : L.atoms ≤ step
       (r.third, n, w ∙ ap (λ (x : Problem). written (pick_words x (picks_of x r.third)) picks) same)
 
   -- ---- 4, completeness. Picks are handed over as a text or as words: these are the picks that are taken then.
-  abbrev taken : ThirdInput → Result (List Tuple)
+  abbrev pub taken : ThirdInput → Result (List Tuple)
   taken given = text_picks c labels given >>= λ read. picks_room p given >>= λ _. take_picks p given read
 
   -- Of a text they are those that are read; of words that are long enough and have no spare bit set, the tuples whose bits are set.
@@ -314,16 +314,6 @@ module _ (L : CaseLimits) (few : L.elements ≤ 64) (lendable : L.atoms ≤ step
     pub refused_17 : are_of_kinds c picks ≡ true → rule_is_true c picks ≡ false → build_steps L question site given state steps ≡ record { answer = refused 17 0; state = state; steps = steps }
     unfolding build_steps built_from kind_refusal refuse_if ◌>>=◌
     refused_17 k r = rw (plans, Building.kinds_hold c picks k, r) refl
-
-    -- So steps are built exactly if the picks are of the declared kinds and the rule is true of them.
-    pub built_exactly : is_accepted (build_steps L question site given state steps).answer ≡ (are_of_kinds c picks && rule_is_true c picks)
-    unfolding is_accepted
-    built_exactly = by_test (are_of_kinds c picks) refl (rule_is_true c picks) refl
-      where
-        by_test : (k : Bool) → are_of_kinds c picks ≡ k → (r : Bool) → rule_is_true c picks ≡ r → is_accepted (build_steps L question site given state steps).answer ≡ (k && r)
-        by_test true a true b = ap (λ (x : StepsBuilt). is_accepted x.answer) (building a b)
-        by_test true a false b = ap (λ (x : StepsBuilt). is_accepted x.answer) (refused_17 a b)
-        by_test false a r b = let (i, e, q) = refused_16 a in ap (λ (x : StepsBuilt). is_accepted x.answer) q
 
   -- Whenever steps are built, it is from picks of the declared kinds of which the rule is true, and the built steps are handed back.
   pub whenever_built : (given : ThirdInput) (state steps : List ℕ) (k : ℕ) → (build_steps L question site given state steps).answer ≡ accepted k
@@ -428,10 +418,6 @@ module _ (L : CaseLimits) (few : L.elements ≤ 64) (lendable : L.atoms ≤ step
       value : bound p ≡ bound_polynomial c.question c.site.size
       value = rw same_problem (Polynomial.bound_value c plain)
 
-  -- No exponent is above 4.
-  pub degree : (exponent : ℕ) → Memᴰ exponent (bound_exponents c.question) → exponent ≤ 4
-  degree exponent m = Polynomial.degree c A exponent m
-
   -- ---- 7, STRIPS-1: without an `every` line every action that removes something removes a need that no action adds;
   pub strips_1 : c.question.every ≡ none → (k : ℕ) (a : Action) → action_at p k ≡ some a
       → (removes p a ≡ []) ⊎ ((x : Atom) × Memᴰ x (removes p a) × Memᴰ x (needs p a) × ((j : ℕ) (b : Action) → action_at p j ≡ some b → Memᴰ x (adds p b) → ⊥))
@@ -526,12 +512,6 @@ module _ (L : CaseLimits) (few : L.elements ≤ 64) (lendable : L.atoms ≤ step
 pub question_texts : (text : List ℕ) (q : Question)
     → (read_question text ≡ accepted q) ↔ (LineByLine (QuestionLine q.types) (question_items q) text × (length text ≤ text_limit) × (q.rule.at + length q.rule.text + 1 ≡ length text) × QuestionIs q)
 question_texts = QuestionTexts.question_texts
-
--- and, for limits of at most 64 elements and a question that is read, as a site exactly if line by line it spells its size, its labels, its
--- members and its facts, in this order (`SiteLine`: an element by its number or its label), and no test is broken (`SiteIs`).
-pub site_texts : (L : CaseLimits) → L.elements ≤ 64 → (question : List ℕ) (q : Question) → read_question question ≡ accepted q → (text : List ℕ) (s : Labelled)
-    → (read_site L q.rels q.types text ≡ accepted s) ↔ (LineByLine (SiteLine q.rels q.types s.labels) (site_items s) text × (length text ≤ text_limit) × SiteIs L q.rels q.types s)
-site_texts L few question q e text s = SiteTexts.site_texts L few q.rels q.types (QuestionTexts.declared_of q (QuestionTexts.question_told question q e).2) text s
 
 -- Two texts are read as a case exactly if these two readings are.
 pub case_texts : (L : CaseLimits) (question site : List ℕ) (q : Question) (s : Labelled)

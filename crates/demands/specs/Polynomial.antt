@@ -82,7 +82,7 @@ bound_level : (d σ : ℕ) (t : Tree) → d < 4 → length (free (forall_node d 
 unfolding free occurs
 bound_level d σ t l = let a = filter_lt (λ l. occurs l (forall_node d σ t)) (below 4) d (mem_below 4 d l) (let e : eqb d d ≡ true = eq-eqb d d refl in rw e refl) in let b = length_below 4 in omega arith
 
-node_degree : (t : Tree) → Within t → node_exponent t ≤ 4
+pub node_degree : (t : Tree) → Within t → node_exponent t ≤ 4
 unfolding node_exponent is_forall Within
 node_degree (leaf p r ls) w = four_free (leaf p r ls)
 node_degree (forall_node d σ t) w = bound_level d σ t w.0
@@ -90,7 +90,7 @@ node_degree (exists_node d σ t) w = four_free (exists_node d σ t)
 node_degree (and_node ts) w = four_free (and_node ts)
 node_degree (or_node ts) w = four_free (or_node ts)
 
-pick_degree : (k : Relation) → k.arity ≤ 3 → (x : ℕ) → Memᴰ x (pick_exponent k) → x ≤ 3
+pub pick_degree : (k : Relation) → k.arity ≤ 3 → (x : ℕ) → Memᴰ x (pick_exponent k) → x ≤ 3
 unfolding pick_exponent
 pick_degree k h x m = by_test (is_function k.kind) (is_chosen k.kind) m
   where
@@ -98,12 +98,3 @@ pick_degree k h x m = by_test (is_function k.kind) (is_chosen k.kind) m
     by_test true c m = let e = Memᴰ.eq_of_singleton m in omega arith
     by_test false true m = let e = Memᴰ.eq_of_singleton m in omega arith
     by_test false false m = absurd (Memᴰ.not-nil m)
-
-pub degree : (c : Case) → Accepted c → (x : ℕ) → Memᴰ x (bound_exponents c.question) → x ≤ 4
-unfolding bound_exponents problem_of problem_with node_at
-degree c A x m = ⊎_elim
-    (λ q. let (k, mk, mx) = flat_mem pick_exponent (relations_of c.question) x q in let h = pick_degree k (relation_cases c A k mk).1 x mx in omega arith)
-    (λ q. let (t, mt, e) = map_mem node_exponent (nodes (tree_of c.question)) x q in
-    let (v, l, f) = mem_get_or (nodes (tree_of c.question)) t no_node mt in
-    subst (λ (y : ℕ). y ≤ 4) (sym e) (subst (λ (s : Tree). node_exponent s ≤ 4) f (node_degree (get_or (nodes (tree_of c.question)) v no_node) (here_at (problem_of c) (good c A) v l).within)))
-    (Memᴰ.append_cases (flat_map pick_exponent (relations_of c.question)) m)

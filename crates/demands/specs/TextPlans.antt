@@ -470,12 +470,12 @@ module _ (c : Case) (A : Accepted c) (plain : c.question.types ≡ []) (alone : 
         or_l (w (fact_words c x) && not (is_among_atoms (fact_words c x) (map (atom_at (parameter_words schema.parameters) (arguments xs)) (map (pattern_words c) schema.removed)))) _ (rw none_removed (and_T (w (fact_words c x)) true (f y h) tt))
 
   -- ---- the start
-  tuples_below : (m k : ℕ) (xs : List ℕ) → Memᴰ xs (tuples_over m k) → Below m xs
+  tuples_below : (m k : ℕ) (zs : List ℕ) → Memᴰ zs (tuples_over m k) → Below m zs
   unfolding tuples_over all
-  tuples_below m zero xs i = subst (Below m) (sym (Memᴰ.eq_of_singleton i)) tt
-  tuples_below m (suc k) xs i =
-      let (x, a, b) = flat_mem (λ x. map (λ xs. x ∷ xs) (tuples_over m k)) (below m) xs i in
-      let (ys, d, e) = map_mem (λ xs. x ∷ xs) (tuples_over m k) xs b in
+  tuples_below m zero zs i = subst (Below m) (sym (Memᴰ.eq_of_singleton i)) tt
+  tuples_below m (suc k) zs i =
+      let (x, a, b) = flat_mem (λ x. map (λ zs. x ∷ zs) (tuples_over m k)) (below m) zs i in
+      let (ys, d, e) = map_mem (λ zs. x ∷ zs) (tuples_over m k) zs b in
       subst (Below m) (sym e) (cons_below m x ys (below_lt m x a) (tuples_below m k ys d))
 
   abbrev Proper : Fact → Type 0

@@ -1,5 +1,6 @@
 // The instance of a case (document 02, job 11) to the byte, from the table of names, the relations by number and the words of facts.
 #![tactic(auto)]
+
 ghost use Rattle.std.specs.Prelude.{◌≡◌, true, false, [], map, ◌+◌, ◌-◌, ◌*◌, ◌^◌, ◌≤◌, ◌<◌};
 ghost use Rattle.definitions.specs.Lists.{if◌then◌else◌, flat_map, from, below};
 ghost use Rattle.definitions.specs.Sheet.Formula.{write_each};

@@ -2,14 +2,8 @@
 use mathlib.Core.Path.{refl}
 use Rattle.print_instance.specs.Texts.{instance_in}
 use native.Mathlib.Omega.{arith}
-use Prim.Native.Nat.{◌^◌, ◌<◌}
-use lib.ListN.{length}
 use Rattle.print_bytes.specs.Emitted.{begin, next as then, finish}
 use Rattle.print_instance.proofs.instance.Goals as goal
-use Rattle.print_instance.proofs.instance.Goals.{After-shared_slice_known-2-1, Start}
-
-short : (c : Start) → (length c.args.out.now < 2 ^ 64) × (c.args.at < 2 ^ 64)
-short c = (omega arith, omega arith)
 
 pub objects-listed-requires : goal.objects-listed-requires
 objects-listed-requires c = c.requires.1.few
@@ -19,4 +13,4 @@ relations-said-requires c = (c.requires.0, c.requires.1)
 
 pub returns : goal.returns
 unfolding instance_in
-returns c = finish _ (then _ _ (then _ _ (then _ _ (then _ _ (begin _ refl (short (goal.at.returns c).After-shared_slice_known-2-1).0 (short (goal.at.returns c).After-shared_slice_known-2-1).1) c.text-titled.ensures) c.objects-listed.ensures) c.text-begun.ensures) c.relations-said.ensures) c.text.ensures
+returns c = finish _ (then _ _ (then _ _ (then _ _ (then _ _ (begin _ refl (omega arith) (omega arith)) c.text-titled.ensures) c.objects-listed.ensures) c.text-begun.ensures) c.relations-said.ensures) c.text.ensures

@@ -1,5 +1,4 @@
 use native.Mathlib.Omega.{arith}
-use Prim.Native.Nat.{◌-◌}
 use Rattle.print_bytes.specs.Emitted.{begin, recut, next as then, finished}
 use Rattle.print_instance.specs.Texts.{object_next, object_end, object_first}
 use Rattle.print_instance.proofs.objects.Goals as goal

@@ -1,5 +1,4 @@
 use native.Mathlib.Omega.{arith}
-use Prim.Native.Nat.{◌-◌}
 use mathlib.Core.Path.{refl}
 use Rattle.print_bytes.specs.Emitted.{begin, recut, next as then, finished, emits_as}
 use Rattle.print_words.specs.Loops.{flat_first, flat_next, flat_end}
@@ -38,8 +37,7 @@ pub loop-r-smaller : goal.loop-r-smaller
 loop-r-smaller c = omega arith
 
 pub loop-r-preserved : goal.loop-r-preserved
-loop-r-preserved c =
-    (
+loop-r-preserved c = (
   omega arith,
   first_next c.args.n c.args.g c.loop-r.r c.loop-r.first _ c.loop-r.invariant.1 c.words-first.ensures,
   then _ _ (recut (flat_next _ c.loop-r.r c.args.g.count (omega arith)) c.loop-r.invariant.2) (emits_as (known_is _ _ _ c.args.n c.args.g c.loop-r.r c.loop-r.first c.loop-r.invariant.1) c.relation-next.ensures),

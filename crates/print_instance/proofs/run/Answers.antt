@@ -1,5 +1,5 @@
 use native.Mathlib.Omega.{arith}
-use Prim.Native.Nat.{◌+◌, ◌*◌, ◌-◌}
+use Prim.Native.Nat.{◌+◌, ◌*◌}
 use mathlib.Core.Path.{subst, sym, ◌∙◌}
 use Rattle.print_bytes.specs.Emitted.{begin, recut, next as then, finished, emits_as}
 use Rattle.print_words.specs.Loops.{flat_more, flat_stop}
@@ -35,8 +35,7 @@ pub loop-z-smaller : goal.loop-z-smaller
 loop-z-smaller c = omega arith
 
 pub loop-z-preserved : goal.loop-z-preserved
-loop-z-preserved c =
-    (
+loop-z-preserved c = (
   omega arith,
   then _ _ (recut (flat_more _ (c.args.before * c.args.k.n) c.loop-z.z c.args.k.n (omega arith)) c.loop-z.invariant.1)
       (emits_as (row_is c.args.question.now c.args.names.now c.args.facts.now c.args.k (c.args.before * c.args.k.n + c.loop-z.z) _ _ _ _ c.is_so.ensures c.agrees-is.ensures c.word_for-w.ensures
