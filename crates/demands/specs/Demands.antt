@@ -2,65 +2,65 @@
 -- of demand 1 is about definitions. Here are those about document 01; each job of document 02 has a file of its own in `Demands/`.
 -- A word of document 01 stands here under the name that `definitions` gives it; the proofs are in the other modules.
 -- Here:
---       accepted-case, accepted-checks
+--       accepted_case, accepted_checks
 --    1  existence
---    2  acceptance, lent-steps, checking, checking-accepts
---    3  soundness, tuples-set, reading; whenever-checked, whenever-read
---    4  text-picks, lent-picks, taken-picks; building, refused-16, refused-17, built-exactly; whenever-built, order-kinds, order-rule, order-steps, order-built,
---       built-accepted, built-same, built-read
---    5  count, at_most, count-plain, count_most
+--    2  acceptance, lent_steps, checking, checking_accepts
+--    3  soundness, tuples_set, reading; whenever_checked, whenever_read
+--    4  text_picks_lem, lent_picks_lem, taken_picks; building, refused_16, refused_17, built_exactly; whenever_built, order_kinds, order_rule, order_steps, order_built,
+--       built_accepted, built_same, built_read
+--    5  count, at_most, count_plain, count_most
 --    6  polynomial, degree
---    7  strips-1, never-twice
---    8  atom-number, atoms-numbered, atoms-used, action-number, actions-numbered; state-bit, state-spare, words-taken, words-written;
---       picks-texts, picks-said, picks-unlabelled, picks-printed; question-texts, site-texts, case-texts, number-texts, steps-texts
---    9  sizes-refuse, action-refuse, check-refuse, read-refuse, build-refuse; check-length, read_length, build-length
---   10  desk-records, desk-picks
+--    7  strips_1, never_twice
+--    8  atom_number_lem, atoms_numbered, atoms_used, action_number_lem, actions_numbered; state_bit, state_spare, words_taken, words_written;
+--       picks_texts, picks_said, picks_unlabelled, picks_printed; question_texts, site_texts, case_texts, number_texts, steps_texts
+--    9  sizes_refuse, action_refuse, check_refuse, read_refuse, build_refuse; check_length, read_length, build_length
+--   10  desk_records, desk_picks
 -- In `Demands/`, by job:
 --   Labels, job 1
---   16  labels-one-to-one, labels-are, said-label, said-number, said-pick; rewritten-case, rewritten-problem, rewritten-sizes,
---       rewritten-tally, rewritten-action, rewritten-check,
---       rewritten-read, rewritten-build, rewritten-judgement, rewritten-tries, rewritten-allowances, rewritten-found,
---       rewritten-monotone, rewritten-window, rewritten-check-layers, rewritten-build-layers; rewritten-picks, rewritten-build-text,
---       rewritten-layers-text, rewritten-judgement-text
+--   16  labels_one_to_one, labels_are, said_label, said_number, said_pick; rewritten_case, rewritten_problem, rewritten_sizes,
+--       rewritten_tally, rewritten_action, rewritten_check,
+--       rewritten_read, rewritten_build, rewritten_judgement, rewritten_tries, rewritten_allowances, rewritten_found,
+--       rewritten_monotone, rewritten_window, rewritten_check_layers, rewritten_build_layers; rewritten_picks, rewritten_build_text,
+--       rewritten_layers_text, rewritten_judgement_text
 --   Layers, job 2
---   23  layer-means, disturbs-means; window-is, checking-layers, flat, low-layers, layers-every, layers-plain; building-layers,
---       built-layers, built-within, built-checked, same-steps, layers-exactly; window-refuse, layers-check-refuse, layers-check-length,
---       layers-build-refuse, layers-build-length
+--   23  layer_means, disturbs_means; window_is, checking_layers, flat, low_layers, layers_every, layers_plain; building_layers,
+--       built_layers_lem, built_within, built_checked, same_steps, layers_exactly; window_refuse, layers_check_refuse, layers_check_length,
+--       layers_build_refuse, layers_build_length
 --   Tally, job 3
---   13  visited-are, visited-once, tallied, sizes-tallied
+--   13  visited_are, visited_once, tallied, sizes_tallied
 --   Types, job 4
---   17  rule-texts, rule-once; rule-typed, types-are, members-are, each-member, range-is, range-ascends; exists-actions,
---       forall-actions, forall-least, forall-next, outside-false, atoms-stay, count-stays; untyped-atom, untyped-atoms,
---       untyped-action, untyped-actions, untyped-needs, untyped-adds, untyped-removes, untyped-initial, untyped-bound, untyped-run;
---       plain-rule, plain-case, plain-range
+--   17  rule_texts, rule_once; rule_typed, types_are, members_are, each_member, range_is, range_ascends; exists_actions,
+--       forall_actions, forall_least, forall_next, outside_false, atoms_stay, count_stays; untyped_atom, untyped_atoms,
+--       untyped_action, untyped_actions, untyped_needs, untyped_adds, untyped_removes, untyped_initial, untyped_bound, untyped_run;
+--       plain_rule, plain_case_lem, plain_range
 --   Kinds, job 5
---   18  kind-sorts, place-range, kinds-are, first-is, settable, set-counts
+--   18  kind_sorts, place_range, kinds_are, first_is, settable, set_counts
 --   Judgement, job 6
---   14  judging, judge-refuse
+--   14  judging, judge_refuse
 --   Finding, job 7
---   20  cells-are, numbered-picks, has-number, one-number; found-least, finds, finds-none, finds-many, finds-short, finds-every,
---       found-steps, found-judged; find-refuse, find-length
+--   20  cells_are, numbered_picks, has_number, one_number_lem; found_least, finds, finds_none, finds_many, finds_short, finds_every,
+--       found_steps, found_judged; find_refuse, find_length
 --   Tries, job 8
---   11  trying, tries-alone, tries-outside, tries-accepts, tries-place; tries-refuse, tries-length
+--   11  trying, tries_alone, tries_outside, tries_accepts, tries_place; tries_refuse, tries_length
 --   Page, job 9
---   19  paper-uncut, paper-units, paper-bare, paper-marks, paper-lines, paper-page, paper-pages, paper-head, paper-number; paper-before,
---       paper-run, paper-none, paper-laid, paper-checked, paper-refuse, paper-bytes, paper-length
+--   19  paper_uncut, paper_units, paper_bare, paper_marks, paper_lines, paper_page, paper_pages, paper_head, paper_number; paper_before,
+--       paper_run, paper_none, paper_laid, paper_checked, paper_refuse, paper_bytes, paper_length
 --   Larger, job 10
---   15  kept-problem, kept-sizes, kept-action, kept-check, kept-read, kept-build, kept-judgement, kept-tries, kept-allowances,
---       kept-window, kept-check-layers, kept-build-layers, kept-page, kept-found, kept-monotone, kept-tally, kept-text, kept-steps; grown,
---       limits-are, long-text, many-steps, desk-limits, desk-steps
+--   15  kept_problem, kept_sizes, kept_action, kept_check, kept_read, kept_build, kept_judgement, kept_tries, kept_allowances,
+--       kept_window, kept_check_layers, kept_build_layers, kept_page, kept_found, kept_monotone, kept_tally, kept_text, kept_steps; grown,
+--       limits_are, long_text, many_steps, desk_limits, desk_steps_lem
 --   Pddl, job 11
---   24  plan-exists, unground, plan-accepted, texts-mean; domain-written, instance-written, plan-written, plan-back, no-plan, plan-told,
---       plan-none, plan-letters; actions-apart, predicates-apart, objects-apart, patterns-formed, facts-formed, objects-once; typed-refused,
---       typed-plan, typed-read; every-refused, every-plan, every-read; domain-taken, instance-taken, plan-taken, read-taken; domain-refuse,
---       instance-refuse, plan-refuse, plan-read-refuse, pddl-length
+--   24  plan_exists, unground, plan_accepted, texts_mean; domain_written, instance_written, plan_written_lem, plan_back, no_plan, plan_told,
+--       plan_none, plan_letters; actions_apart, predicates_apart, objects_apart, patterns_formed, facts_formed, objects_once; typed_refused,
+--       typed_plan, typed_read; every_refused, every_plan, every_read; domain_taken, instance_taken, plan_taken, read_taken; domain_refuse,
+--       instance_refuse, plan_refuse, plan_read_refuse, pddl_length
 --   Every, job 12
---   22  every-sets, value-is, rounds, few-values; no-every-relations, no-every-tuple, no-every-not, no-every-atoms, no-every-actions,
---       no-every-action, no-every-rule, no-every-built, no-every-ground
+--   22  every_sets, value_is, rounds, few_values; no_every_relations, no_every_tuple, no_every_not, no_every_atoms, no_every_actions,
+--       no_every_action, no_every_rule, no_every_built, no_every_ground
 --   Monotone, job 13
---   21  all-or-none, wants-some, wants-none, wants-else, wants-every, wanted-steps; monotone-refuse
+--   21  all_or_none, wants_some, wants_none, wants_else, wants_every, wanted_steps; monotone_refuse
 --   Allowance, job 14
---   12  one-pick, one-pick-built, allowances-are, allowances-every, allowances-refuse, allowances-length
+--   12  one_pick, one_pick_built, allowances_are, allowances_every, allowances_refuse, allowances_length
 pub mod Labels
 pub mod Layers
 pub mod Tally
