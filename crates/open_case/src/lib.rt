@@ -1,6 +1,7 @@
 // What every call begins with: a case is read and its problem grounded, by limits that the caller chooses. What is wrong with the case is
 // told; that its problem is over the limits (11 or 23) is only noted, since a third input may be refused before that.
 #![tactic(auto)]
+
 ghost use Rattle.std.specs.Prelude.{◌≡◌, true, false, ◌≤◌, length};
 ghost use Rattle.rows.specs.Values.{Most};
 ghost use Rattle.bits.specs.Table.{bit};

@@ -5,7 +5,7 @@ use Rattle.std.proofs.Common.{sym, ap₂, subst, ◌∙◌, append-nil, append_a
 use Rattle.std.proofs.lemmas.List.{map-append}
 use native.Mathlib.Omega.{arith}
 use borrow.Author.Tests.{lt-ltb, le-ltb, ne_eqb}
-use Rattle.definitions.specs.Lists.{if◌then◌else◌, flat_map, from, below}
+use Rattle.definitions.specs.Lists.{flat_map, from, below}
 use Rattle.definitions.specs.Sheet.Text.{bytes}
 use Rattle.definitions.specs.Reply.Pddl.{object_word}
 use Rattle.rule_nodes.specs.declared.PartRow.{PartRow}

@@ -1,6 +1,6 @@
 -- A part by the table is written as the pattern of the case's part. Assumes nothing.
 use Prim.Native.Nat.{ℕ, zero, suc, ◌+◌, ◌-◌, ◌≤◌, ◌<◌}
-use Rattle.std.specs.Prelude.{◌≡◌, refl, ◌⊎◌, Bool, ltb, eqb, length, get_or, take, drop}
+use Rattle.std.specs.Prelude.{◌≡◌, refl, Bool, ltb, eqb, length, get_or, take, drop}
 use Rattle.std.proofs.Common.{sym, subst, ◌∙◌, ⊎_elim, get_or-drop, lt-ltb, le-ltb}
 use Rattle.std.proofs.Math.Path.{ap, ap₂}
 use Rattle.std.proofs.Math.Bool.{true, false}

@@ -1,5 +1,6 @@
 // The domain of a case (document 02, job 11) to the byte, from the table of names, the relations by number and the node table.
 #![tactic(auto)]
+
 ghost use Rattle.std.specs.Prelude.{◌≡◌, [], ◌∷◌, ◌+◌, ◌-◌, ◌≤◌, ◌<◌, set};
 ghost use Rattle.definitions.specs.Lists.{if◌then◌else◌, flat_map, from, below};
 ghost use Rattle.definitions.specs.Sheet.Formula.{write_each};

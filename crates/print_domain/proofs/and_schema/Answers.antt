@@ -2,14 +2,8 @@
 use native.Mathlib.Omega.{arith}
 use Rattle.print_domain.specs.Texts.{proved_fits}
 use Rattle.print_domain.specs.Nodes.{small_and, and_parts}
-use Prim.Native.Nat.{◌^◌, ◌<◌}
-use lib.ListN.{length}
 use Rattle.print_bytes.specs.Emitted.{begin, next as then, finish}
 use Rattle.print_domain.proofs.and_schema.Goals as goal
-use Rattle.print_domain.proofs.and_schema.Goals.{After-slice_known-1, Start}
-
-short : (c : Start) → (length c.args.out.now < 2 ^ 64) × (c.args.at < 2 ^ 64)
-short c = (omega arith, omega arith)
 
 pub offset_bounds-t-v : goal.offset_bounds-t-v
 offset_bounds-t-v c = omega (arith, c.requires.2)
@@ -30,4 +24,4 @@ pub proof_end-requires : goal.proof_end-requires
 proof_end-requires c = (c.requires.0, proved_fits _ _, c.parameters-own.ensures.0)
 
 pub returns : goal.returns
-returns c = finish _ (then _ _ (then _ _ (then _ _ (begin _ (and_parts _ _ c.args.t c.args.v _ _ c.wide-width.ensures.0 _ c.parameters-own.ensures.2) (short (goal.at.returns c).After-slice_known-1).0 (short (goal.at.returns c).After-slice_known-1).1) c.head-headed.ensures) c.text-opened.ensures) c.kids-needed.ensures) c.proof_end.ensures
+returns c = finish _ (then _ _ (then _ _ (then _ _ (begin _ (and_parts _ _ c.args.t c.args.v _ _ c.wide-width.ensures.0 _ c.parameters-own.ensures.2) (omega arith) (omega arith)) c.head-headed.ensures) c.text-opened.ensures) c.kids-needed.ensures) c.proof_end.ensures

@@ -1,14 +1,8 @@
 -- `print_domain::domain` meets its contract. Assumes nothing.
 use native.Mathlib.Omega.{arith}
 use Rattle.print_domain.specs.Nodes.{domain_parts}
-use Prim.Native.Nat.{◌^◌, ◌<◌}
-use lib.ListN.{length}
 use Rattle.print_bytes.specs.Emitted.{begin, next as then, finish}
 use Rattle.print_domain.proofs.domain.Goals as goal
-use Rattle.print_domain.proofs.domain.Goals.{After-slice_known-1, Start}
-
-short : (c : Start) → (length c.args.out.now < 2 ^ 64) × (c.args.at < 2 ^ 64)
-short c = (omega arith, omega arith)
 
 pub predicates-stated-requires : goal.predicates-stated-requires
 predicates-stated-requires c = (c.requires.0, c.requires.1, c.requires.2, c.requires.4)
@@ -26,4 +20,4 @@ pub goal_schema-ended-requires : goal.goal_schema-ended-requires
 goal_schema-ended-requires c = (c.requires.0, c.requires.2)
 
 pub returns : goal.returns
-returns c = finish _ (then _ _ (then _ _ (then _ _ (then _ _ (begin _ (domain_parts _ _ _ _ _) (short (goal.at.returns c).After-slice_known-1).0 (short (goal.at.returns c).After-slice_known-1).1) c.predicates-stated.ensures) c.guesses-guessed.ensures) c.nodes_schemas-proved.ensures) c.goal_schema-ended.ensures) c.text.ensures
+returns c = finish _ (then _ _ (then _ _ (then _ _ (then _ _ (begin _ (domain_parts _ _ _ _ _) (omega arith) (omega arith)) c.predicates-stated.ensures) c.guesses-guessed.ensures) c.nodes_schemas-proved.ensures) c.goal_schema-ended.ensures) c.text.ensures

@@ -1,5 +1,5 @@
 -- `print_domain::env_of` meets its contract. Assumes nothing.
-use Prim.Native.Nat.{◌-◌, ◌≤◌}
+use Prim.Native.Nat.{◌≤◌}
 use mathlib.Core.Path.{◌≡◌}
 use lib.ListN.{length}
 use Rattle.print_domain.specs.Actions.{env_from, no_env}

@@ -1,5 +1,4 @@
 use native.Mathlib.Omega.{arith}
-use Prim.Native.Nat.{◌-◌}
 use mathlib.Core.Path.{refl}
 use Rattle.print_bytes.specs.Emitted.{begin, recut, next as then, finished}
 use Rattle.print_domain.specs.Texts.{params_next, params_end}

@@ -3,14 +3,8 @@ use native.Mathlib.Omega.{arith}
 use Rattle.print_instance.specs.Texts.{relation_fits}
 use Rattle.print_domain.specs.Texts.{proved_fits, emits_size}
 use Rattle.print_domain.specs.Nodes.{small_next, next_parts}
-use Prim.Native.Nat.{◌^◌, ◌<◌}
-use lib.ListN.{length}
 use Rattle.print_bytes.specs.Emitted.{begin, next as then, finish}
 use Rattle.print_domain.proofs.next_schema.Goals as goal
-use Rattle.print_domain.proofs.next_schema.Goals.{After-slice_known-1, Start}
-
-short : (c : Start) → (length c.args.out.now < 2 ^ 64) × (c.args.at < 2 ^ 64)
-short c = (omega arith, omega arith)
 
 pub offset_bounds-t-v : goal.offset_bounds-t-v
 offset_bounds-t-v c = omega (arith, c.requires.2)
@@ -60,8 +54,8 @@ proof_end-requires c = (c.requires.0, proved_fits _ _, c.with_term-after.ensures
 pub shape_of-out : goal.shape_of-out
 shape_of-out c =
     emits_size (
-    finish _ (then _ _ (then _ _ (then _ _ (then _ _ (then _ _ (begin _ (next_parts _ _ c.args.t c.args.v c.args.end _ c.wide-width.ensures.0 _ c.parameters-own.ensures.2 _ _ _ _ c.only.ensures.2 c.with_term-both.ensures.2 c.with_term-before.ensures.2 c.with_term-after.ensures.2) (short (goal.at.shape_of-out c).After-slice_known-1).0 (short (goal.at.shape_of-out c).After-slice_known-1).1) c.head-headed.ensures) c.text-opened.ensures) c.also-followed.ensures) c.also-owned.ensures) c.under-needed.ensures) c.proof_end.ensures
+    finish _ (then _ _ (then _ _ (then _ _ (then _ _ (then _ _ (begin _ (next_parts _ _ c.args.t c.args.v c.args.end _ c.wide-width.ensures.0 _ c.parameters-own.ensures.2 _ _ _ _ c.only.ensures.2 c.with_term-both.ensures.2 c.with_term-before.ensures.2 c.with_term-after.ensures.2) (omega arith) (omega arith)) c.head-headed.ensures) c.text-opened.ensures) c.also-followed.ensures) c.also-owned.ensures) c.under-needed.ensures) c.proof_end.ensures
     )
 
 pub returns : goal.returns
-returns c = finish _ (then _ _ (then _ _ (then _ _ (then _ _ (then _ _ (begin _ (next_parts _ _ c.args.t c.args.v _ _ c.wide-width.ensures.0 _ c.parameters-own.ensures.2 _ _ _ _ c.only.ensures.2 c.with_term-both.ensures.2 c.with_term-before.ensures.2 c.with_term-after.ensures.2) (short (goal.at.returns c).After-slice_known-1).0 (short (goal.at.returns c).After-slice_known-1).1) c.head-headed.ensures) c.text-opened.ensures) c.also-followed.ensures) c.also-owned.ensures) c.under-needed.ensures) c.proof_end.ensures
+returns c = finish _ (then _ _ (then _ _ (then _ _ (then _ _ (then _ _ (begin _ (next_parts _ _ c.args.t c.args.v _ _ c.wide-width.ensures.0 _ c.parameters-own.ensures.2 _ _ _ _ c.only.ensures.2 c.with_term-both.ensures.2 c.with_term-before.ensures.2 c.with_term-after.ensures.2) (omega arith) (omega arith)) c.head-headed.ensures) c.text-opened.ensures) c.also-followed.ensures) c.also-owned.ensures) c.under-needed.ensures) c.proof_end.ensures

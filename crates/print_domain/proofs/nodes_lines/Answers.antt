@@ -1,5 +1,4 @@
 use native.Mathlib.Omega.{arith}
-use Prim.Native.Nat.{◌-◌}
 use Rattle.print_bytes.specs.Emitted.{begin, recut, next as then, finished, emits_as}
 use Rattle.print_words.specs.Loops.{flat_first, flat_next, flat_end}
 use Rattle.print_domain.specs.Texts.{nodes_lines, node_parts, proved_fits}
@@ -31,8 +30,7 @@ pub loop-v-smaller : goal.loop-v-smaller
 loop-v-smaller c = omega arith
 
 pub loop-v-preserved : goal.loop-v-preserved
-loop-v-preserved c =
-    (
+loop-v-preserved c = (
   omega arith,
   then _ _ (recut (flat_next _ c.loop-v.v c.args.t.count (omega arith)) c.loop-v.invariant.1)
       (emits_as (node_parts _ _ c.args.t c.loop-v.v _ _ _ c.wide.ensures.0 c.node_places.ensures.0 c.parameters-places.ensures.2) c.line-next.ensures),

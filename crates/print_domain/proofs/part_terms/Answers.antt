@@ -1,14 +1,13 @@
 use borrow.Author.Rules.{rules}
 use native.Mathlib.Omega.{arith}
-use Prim.Native.Nat.{◌-◌}
 use mathlib.Core.Path.{◌≡◌}
 use lib.ListN.{length}
 use Rattle.print_domain.specs.Nodes.{terms_none, terms_next, terms_more, terms_all}
 use Rattle.print_domain.proofs.part_terms.Goals as goal
 use Rattle.print_domain.proofs.part_terms.Goals.{Start}
 
-long : (I : tie.invariant-loop) (m : tie.decreases-loop) (c : Start) → length c.args.q.levels ≡ 4
-long I m c = search rules
+long : (c : Start) → length c.args.q.levels ≡ 4
+long c = search rules
 
 pub parameters-t-requires : goal.parameters-t-requires
 parameters-t-requires c = omega arith
@@ -35,12 +34,11 @@ pub loop-i-smaller : goal.loop-i-smaller
 loop-i-smaller c = omega arith
 
 pub loop-i-preserved : goal.loop-i-preserved
-loop-i-preserved c =
-    (
+loop-i-preserved c = (
   omega arith,
   c.with_term-t.ensures.0,
   omega (arith, c.with_term-t.ensures.1, c.loop-i.invariant.2),
-  terms_next c.args.q.levels c.args.e.at c.loop-i.i _ _ _ (omega (arith, long _ _ (goal.at.loop-i-preserved c).Start, c.wide-width.ensures.0, c.requires.width)) c.wide-l.ensures.0 c.loop-i.invariant.3 c.with_term-t.ensures.2,
+  terms_next c.args.q.levels c.args.e.at c.loop-i.i _ _ _ (omega (arith, long (goal.at.loop-i-preserved c).Start, c.wide-width.ensures.0, c.requires.width)) c.wide-l.ensures.0 c.loop-i.invariant.3 c.with_term-t.ensures.2,
 )
 
 pub with_term-requires : goal.with_term-requires

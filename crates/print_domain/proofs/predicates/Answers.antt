@@ -2,14 +2,8 @@
 use mathlib.Core.Path.{refl}
 use Rattle.print_domain.specs.Nodes.{predicates_in}
 use native.Mathlib.Omega.{arith}
-use Prim.Native.Nat.{◌^◌, ◌<◌}
-use lib.ListN.{length}
 use Rattle.print_bytes.specs.Emitted.{begin, next as then, finish}
 use Rattle.print_domain.proofs.predicates.Goals as goal
-use Rattle.print_domain.proofs.predicates.Goals.{After-shared_slice_known-2-1, Start}
-
-short : (c : Start) → (length c.args.out.now < 2 ^ 64) × (c.args.at < 2 ^ 64)
-short c = (omega arith, omega arith)
 
 pub constants-listed-requires : goal.constants-listed-requires
 constants-listed-requires c = c.requires.3
@@ -22,4 +16,4 @@ nodes_lines-noded-requires c = (c.requires.0, c.requires.2)
 
 pub returns : goal.returns
 unfolding predicates_in
-returns c = finish _ (then _ _ (then _ _ (then _ _ (then _ _ (then _ _ (begin _ refl (short (goal.at.returns c).After-shared_slice_known-2-1).0 (short (goal.at.returns c).After-shared_slice_known-2-1).1) c.text-titled.ensures) c.constants-listed.ensures) c.text-begun.ensures) c.relations_lines-related.ensures) c.nodes_lines-noded.ensures) c.text.ensures
+returns c = finish _ (then _ _ (then _ _ (then _ _ (then _ _ (then _ _ (begin _ refl (omega arith) (omega arith)) c.text-titled.ensures) c.constants-listed.ensures) c.text-begun.ensures) c.relations_lines-related.ensures) c.nodes_lines-noded.ensures) c.text.ensures

@@ -1,14 +1,8 @@
 -- `print_domain::proof_end` meets its contract. Assumes nothing.
 use Rattle.print_domain.specs.Nodes.{end_parts}
 use native.Mathlib.Omega.{arith}
-use Prim.Native.Nat.{◌^◌, ◌<◌}
-use lib.ListN.{length}
 use Rattle.print_bytes.specs.Emitted.{begin, next as then, finish}
 use Rattle.print_domain.proofs.proof_end.Goals as goal
-use Rattle.print_domain.proofs.proof_end.Goals.{After-shared_slice_known-1, Start}
-
-short : (c : Start) → (length c.args.out.now < 2 ^ 64) × (c.args.at < 2 ^ 64)
-short c = (omega arith, omega arith)
 
 pub returns : goal.returns
-returns c = finish _ (then _ _ (then _ _ (begin _ (end_parts _ _ _ _) (short (goal.at.returns c).After-shared_slice_known-1).0 (short (goal.at.returns c).After-shared_slice_known-1).1) c.text-turned.ensures) c.also-added.ensures) c.text.ensures
+returns c = finish _ (then _ _ (then _ _ (begin _ (end_parts _ _ _ _) (omega arith) (omega arith)) c.text-turned.ensures) c.also-added.ensures) c.text.ensures

@@ -2,14 +2,8 @@
 use Rattle.print_instance.specs.Texts.{relation_fits}
 use Rattle.print_domain.specs.Texts.{lines_parts}
 use native.Mathlib.Omega.{arith}
-use Prim.Native.Nat.{◌^◌, ◌<◌}
-use lib.ListN.{length}
 use Rattle.print_bytes.specs.Emitted.{begin, next as then, finish}
 use Rattle.print_domain.proofs.relation_lines.Goals as goal
-use Rattle.print_domain.proofs.relation_lines.Goals.{Start}
-
-short : (c : Start) → (length c.args.out.now < 2 ^ 64) × (c.args.at < 2 ^ 64)
-short c = (omega arith, omega arith)
 
 pub line-one-requires : goal.line-one-requires
 line-one-requires c = (c.requires.0, relation_fits 0 c.args.r c.requires.1, c.parameters-places.ensures.0)
@@ -24,4 +18,4 @@ pub line_if-requires : goal.line_if-requires
 line_if-requires c = (c.requires.0, relation_fits 3 c.args.r c.requires.1, c.parameters-only.ensures.0)
 
 pub returns : goal.returns
-returns c = finish _ (then _ _ (then _ _ (then _ _ (begin _ (lines_parts _ _ _ _ _ _ _ _ _ c.parameters-places.ensures.2 c.parameters-only.ensures.2 c.is_function-is.ensures c.is_injective-too.ensures) (short (goal.at.returns c).Start).0 (short (goal.at.returns c).Start).1) c.line-one.ensures) c.line-two.ensures) c.line_if-three.ensures) c.line_if.ensures
+returns c = finish _ (then _ _ (then _ _ (then _ _ (begin _ (lines_parts _ _ _ _ _ _ _ _ _ c.parameters-places.ensures.2 c.parameters-only.ensures.2 c.is_function-is.ensures c.is_injective-too.ensures) (omega arith) (omega arith)) c.line-one.ensures) c.line-two.ensures) c.line_if-three.ensures) c.line_if.ensures

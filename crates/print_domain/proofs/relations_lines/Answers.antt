@@ -1,5 +1,4 @@
 use native.Mathlib.Omega.{arith}
-use Prim.Native.Nat.{◌-◌}
 use Rattle.print_bytes.specs.Emitted.{begin, recut, next as then, finished}
 use Rattle.print_words.specs.Loops.{flat_first, flat_next, flat_end}
 use Rattle.print_domain.specs.Texts.{relations_lines}

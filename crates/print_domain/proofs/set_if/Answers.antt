@@ -2,16 +2,10 @@
 use Rattle.print_bytes.specs.Emitted.{emits_as, emits_none}
 use Rattle.print_domain.specs.Texts.{set_yes, set_no}
 use native.Mathlib.Omega.{arith}
-use Prim.Native.Nat.{◌^◌, ◌<◌}
-use lib.ListN.{length}
 use Rattle.print_domain.proofs.set_if.Goals as goal
-use Rattle.print_domain.proofs.set_if.Goals.{Start}
-
-short : (c : Start) → (length c.args.out.now < 2 ^ 64) × (c.args.at < 2 ^ 64)
-short c = (omega arith, omega arith)
 
 pub returns-then-is_picked : goal.returns-then-is_picked
 returns-then-is_picked c = emits_as (set_yes _ _ _ _ _ _ c.is_picked.ensures c.if-is_picked.true) c.set_schema.ensures
 
 pub returns : goal.returns
-returns c = emits_as (set_no _ _ _ _ _ _ c.is_picked.ensures c.if-is_picked.false) (emits_none _ _ (short (goal.at.returns c).Start).1)
+returns c = emits_as (set_no _ _ _ _ _ _ c.is_picked.ensures c.if-is_picked.false) (emits_none _ _ (omega arith))

@@ -2,14 +2,8 @@
 use native.Mathlib.Omega.{arith}
 use Rattle.print_instance.specs.Texts.{relation_fits}
 use Rattle.print_domain.specs.Texts.{set_parts, set_small, emits_size}
-use Prim.Native.Nat.{◌^◌, ◌<◌}
-use lib.ListN.{length}
 use Rattle.print_bytes.specs.Emitted.{begin, next as then, finish}
 use Rattle.print_domain.proofs.set_schema.Goals as goal
-use Rattle.print_domain.proofs.set_schema.Goals.{After-shared_slice_known-2-1, Start}
-
-short : (c : Start) → (length c.args.out.now < 2 ^ 64) × (c.args.at < 2 ^ 64)
-short c = (omega arith, omega arith)
 
 pub head-headed-requires : goal.head-headed-requires
 head-headed-requires c = (c.requires.0, set_small c.args.r c.requires.1, omega (arith, c.requires.2))
@@ -26,8 +20,8 @@ used_up-removed-requires c = (c.requires.0, c.requires.1, c.requires.2)
 pub shape_of-out : goal.shape_of-out
 shape_of-out c =
     emits_size (
-    finish _ (then _ _ (then _ _ (then _ _ (then _ _ (then _ _ (then _ _ (begin _ (set_parts _ _ c.args.r c.args.arity c.args.kind _ c.parameters-places.ensures.2) (short (goal.at.shape_of-out c).After-shared_slice_known-2-1).0 (short (goal.at.shape_of-out c).After-shared_slice_known-2-1).1) c.head-headed.ensures) c.text-guessed.ensures) c.used_up-needed.ensures) c.text-turned.ensures) c.also-added.ensures) c.used_up-removed.ensures) c.text.ensures
+    finish _ (then _ _ (then _ _ (then _ _ (then _ _ (then _ _ (then _ _ (begin _ (set_parts _ _ c.args.r c.args.arity c.args.kind _ c.parameters-places.ensures.2) (omega arith) (omega arith)) c.head-headed.ensures) c.text-guessed.ensures) c.used_up-needed.ensures) c.text-turned.ensures) c.also-added.ensures) c.used_up-removed.ensures) c.text.ensures
     )
 
 pub returns : goal.returns
-returns c = finish _ (then _ _ (then _ _ (then _ _ (then _ _ (then _ _ (then _ _ (begin _ (set_parts _ _ _ _ _ _ c.parameters-places.ensures.2) (short (goal.at.returns c).After-shared_slice_known-2-1).0 (short (goal.at.returns c).After-shared_slice_known-2-1).1) c.head-headed.ensures) c.text-guessed.ensures) c.used_up-needed.ensures) c.text-turned.ensures) c.also-added.ensures) c.used_up-removed.ensures) c.text.ensures
+returns c = finish _ (then _ _ (then _ _ (then _ _ (then _ _ (then _ _ (then _ _ (begin _ (set_parts _ _ _ _ _ _ c.parameters-places.ensures.2) (omega arith) (omega arith)) c.head-headed.ensures) c.text-guessed.ensures) c.used_up-needed.ensures) c.text-turned.ensures) c.also-added.ensures) c.used_up-removed.ensures) c.text.ensures

@@ -2,14 +2,8 @@
 use Rattle.print_instance.specs.Texts.{relation_fits}
 use Rattle.print_domain.specs.Texts.{used_parts}
 use native.Mathlib.Omega.{arith}
-use Prim.Native.Nat.{◌^◌, ◌<◌}
-use lib.ListN.{length}
 use Rattle.print_bytes.specs.Emitted.{begin, next as then, finish}
 use Rattle.print_domain.proofs.used_up.Goals as goal
-use Rattle.print_domain.proofs.used_up.Goals.{Start}
-
-short : (c : Start) → (length c.args.out.now < 2 ^ 64) × (c.args.at < 2 ^ 64)
-short c = (omega arith, omega arith)
 
 pub also-one-requires : goal.also-one-requires
 also-one-requires c = (c.requires.0, relation_fits 1 c.args.r c.requires.1, c.parameters-places.ensures.0)
@@ -21,4 +15,4 @@ pub also_if-requires : goal.also_if-requires
 also_if-requires c = (c.requires.0, relation_fits 3 c.args.r c.requires.1, c.only-second.ensures.0)
 
 pub returns : goal.returns
-returns c = finish _ (then _ _ (then _ _ (begin _ (used_parts _ _ _ _ _ _ _ _ _ _ _ c.parameters-places.ensures.2 c.only-first.ensures.2 c.only-second.ensures.2 c.is_function-is.ensures c.is_injective-too.ensures) (short (goal.at.returns c).Start).0 (short (goal.at.returns c).Start).1) c.also-one.ensures) c.also_if-two.ensures) c.also_if.ensures
+returns c = finish _ (then _ _ (then _ _ (begin _ (used_parts _ _ _ _ _ _ _ _ _ _ _ c.parameters-places.ensures.2 c.only-first.ensures.2 c.only-second.ensures.2 c.is_function-is.ensures c.is_injective-too.ensures) (omega arith) (omega arith)) c.also-one.ensures) c.also_if-two.ensures) c.also_if.ensures

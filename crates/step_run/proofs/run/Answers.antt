@@ -41,16 +41,16 @@ pub loop-i-preserved : goal.loop-i-preserved
 loop-i-preserved c =
     let is-nothing = c.is_nothing in let action_at_lem = c.action_at-a in (
       omega arith,
-      c.take.auto.0 ∙ c.loop-i.invariant.1,
+      c.take.auto.state ∙ c.loop-i.invariant.1,
       λ p is h.
           c.loop-i.invariant.2 p is h ∙ left_run p (bit c.loop-i.state) c.loop-i.i c.args.steps.now (omega arith)
           ∙ step_run p c.args.table.now is (bit c.loop-i.state) c.loop-i.i (get_or c.args.steps.now c.loop-i.i 0)
-          (drop (suc c.loop-i.i) c.args.steps.now) action_at_lem.result (action_at_lem.ensures.1 p is) (bit c.take.new.0)
+          (drop (suc c.loop-i.i) c.args.steps.now) action_at_lem.result (action_at_lem.ensures.1 p is) (bit c.take.new.state)
           (length c.loop-i.state) (omega (arith, c.loop-i.invariant.1, h))
           (sym is-nothing.ensures ∙ c.if-is_nothing.false)
           (sym c.if-may_take.true ∙ c.may_take.ensures)
           c.take.ensures
-          ∙ ap (λ (m : ℕ). run_from p (bit c.take.new.0) m (drop m c.args.steps.now)) (sym (add-one c.loop-i.i)),
+          ∙ ap (λ (m : ℕ). run_from p (bit c.take.new.state) m (drop m c.args.steps.now)) (sym (add-one c.loop-i.i)),
     )
 
 pub returns-then-test : goal.returns-then-test
