@@ -1,5 +1,6 @@
 // The public call for one action by its number. It takes texts of any kind and any length, and asks nothing of its caller.
 #![tactic(auto)]
+
 ghost use Rattle.std.specs.Prelude.{◌≡◌, false, length};
 ghost use Rattle.definitions.specs.Limits.{usual};
 ghost use Rattle.definitions.specs.Reply.Outcome.{action as «action_of_lem»};

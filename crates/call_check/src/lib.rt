@@ -1,6 +1,7 @@
 // The public calls that check steps. Each takes texts and lent buffers of any kind and any length, and asks nothing of its caller.
 // What a call returns, and what each buffer then holds, is what `definitions`, `Outcome`, says of it.
 #![tactic(auto)]
+
 ghost use Rattle.std.specs.Prelude.{◌≡◌, false, List, ℕ, length};
 ghost use Rattle.definitions.specs.Limits.{CaseLimits, usual};
 ghost use Rattle.definitions.specs.Refusal.{accepted};

@@ -1,6 +1,7 @@
 // The public call that checks a layered plan: all steps, layer after layer, and for each layer the index after its last step. It takes texts
 // and lent buffers of any kind and any length, and asks nothing of its caller.
 #![tactic(auto)]
+
 ghost use Rattle.std.specs.Prelude.{◌≡◌, false, List, ℕ, length};
 ghost use Rattle.definitions.specs.Limits.{CaseLimits, usual};
 ghost use Rattle.definitions.specs.Refusal.{accepted};

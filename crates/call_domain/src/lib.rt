@@ -1,5 +1,6 @@
 // A public call: the domain of a case in PDDL (document 02, job 11).
 #![tactic(auto)]
+
 ghost use Rattle.std.specs.Prelude.{◌≡◌, false, List, ℕ, length};
 ghost use Rattle.definitions.specs.Limits.{usual};
 ghost use Rattle.definitions.specs.Reply.Pddl.{write_domain};

@@ -1,5 +1,6 @@
 // A plan in PDDL (document 02, job 11): steps by their numbers as lines.
 #![tactic(auto)]
+
 ghost use Rattle.std.specs.Prelude.{◌≡◌, false, List, ℕ, length};
 ghost use Rattle.definitions.specs.Limits.{usual};
 ghost use Rattle.definitions.specs.Refusal.{accepted};

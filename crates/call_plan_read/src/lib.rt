@@ -1,5 +1,6 @@
 // A plan read from PDDL (document 02, job 11): its lines as steps by their numbers.
 #![tactic(auto)]
+
 ghost use Rattle.std.specs.Prelude.{◌≡◌, false, List, ℕ, length};
 ghost use Rattle.definitions.specs.Limits.{usual};
 ghost use Rattle.definitions.specs.Reply.Pddl.{read_plan};

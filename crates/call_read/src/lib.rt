@@ -1,5 +1,6 @@
 // Picks read from steps: once all steps were taken, the tuples of a `choose` that hold in the state are those that the steps set.
 #![tactic(auto)]
+
 ghost use Rattle.std.specs.Prelude.{◌≡◌, false, List, ℕ, ◌≤◌, length};
 ghost use Rattle.definitions.specs.Limits.{usual};
 ghost use Rattle.definitions.specs.Problem.Atoms.{words_for};

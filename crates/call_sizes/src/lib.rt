@@ -1,6 +1,7 @@
 // The tally of a case: of one that was read, and of two texts. The limits of 11 and 23 are not asked. Then the public call for the sizes,
 // which asks them, and nothing of its caller.
 #![tactic(auto)]
+
 ghost use Rattle.std.specs.Prelude.{◌≡◌, Bool, false, ℕ, length};
 ghost use Rattle.definitions.specs.Limits.{usual};
 ghost use Rattle.definitions.specs.Problem.Truth.{Case};

@@ -1,5 +1,6 @@
 // A public call: the window of a case, that is how many layers its plans have at the least, and how many the built ones have at the most.
 #![tactic(auto)]
+
 ghost use Rattle.std.specs.Prelude.{◌≡◌, Bool, false, List, ℕ, length};
 ghost use Rattle.definitions.specs.Limits.{usual};
 ghost use Rattle.definitions.specs.Reply.Outcome.{read_case};

@@ -1,6 +1,7 @@
 // Finding the least picks. A number has a digit for each cell, the first cell's the most significant; the search goes through the numbers
 // in order, sixty-four runs of them at a time: one evaluation says in which runs the rule may hold, whatever the cells below pick.
 #![tactic(auto)]
+
 ghost use Rattle.std.specs.Prelude.{◌≡◌, ◌&&◌, ℕ, ◌+◌, ◌-◌, ◌*◌, ◌^◌, ◌<◌, ◌≤◌, ltb, length, take};
 ghost use Rattle.definitions.specs.Problem.Truth.{Case, are_of_kinds};
 ghost use Rattle.definitions.specs.Reply.Finding.{numbered, least_number};

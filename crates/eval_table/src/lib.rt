@@ -1,5 +1,6 @@
 // The lines of `eval_rule`, filled from the relations and the node table of a rule; and whether the rule is true of picks.
 #![tactic(auto)]
+
 ghost use Rattle.std.specs.Prelude.{◌≡◌, true, List, ◌++◌, ℕ, ◌^◌, ◌<◌, ◌≤◌, length};
 ghost use Rattle.std.proofs.Math.Option.{none};
 ghost use Rattle.definitions.specs.Sheet.Relations.{Tuple};

@@ -1,5 +1,6 @@
 // What the PDDL calls test of a case that was opened (document 02, job 11).
 #![tactic(auto)]
+
 ghost use Rattle.std.specs.Prelude.{◌≡◌};
 ghost use Rattle.open_pddl.specs.Gates.{refusal_in};
 

@@ -1,6 +1,7 @@
 // Many step lists of one case, without the records: what is done once before all lists, and what one list gets. The case is read and
 // grounded once, and its initial state is computed once. The call over lent records is crate `call_tries`.
 #![tactic(auto)]
+
 ghost use Rattle.std.specs.Prelude.{◌≡◌, false, ◌≤◌, length as «length_of»};
 ghost use Rattle.definitions.specs.Limits.{usual};
 ghost use Rattle.definitions.specs.Problem.Atoms.{Problem};

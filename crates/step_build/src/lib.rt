@@ -3,6 +3,7 @@
 // such a round for each of its values, ended by round-end and marks. Truth is decided by words in a scratch state before anything lent is
 // written.
 #![tactic(auto)]
+
 ghost use Rattle.std.specs.Prelude.{◌≡◌, true, false, ℕ, ◌+◌, ◌-◌, ◌/◌, ◌^◌, ◌<◌, ◌≤◌, ◌*◌, List, ◌∷◌, ◌++◌, length};
 ghost use Rattle.std.proofs.Math.Option.{none};
 ghost use Rattle.definitions.specs.Sheet.Relations.{Tuple};

@@ -1,6 +1,7 @@
 // Layers of steps taken in a lent state. A layer is tested without comparing its steps with each other: each may be taken before, they
 // may be taken one after another, and after that each still has what it needs and does not itself remove.
 #![tactic(auto)]
+
 ghost use Rattle.std.specs.Prelude.{◌≡◌, ◌*◌, ◌-◌, ◌≤◌, eqb, length};
 ghost use Rattle.definitions.specs.Lists.{if◌then◌else◌, all};
 ghost use Rattle.definitions.specs.Refusal.{refused, accepted};

@@ -1,6 +1,7 @@
 // The digest SHA-256, by which vectors name what is too long to stand there. Nothing is promised of it but that it runs and ends: a wrong
 // digest would be none of the vectors'.
 #![tactic(auto)]
+
 ghost use Rattle.std.specs.Prelude.{◌<◌};
 
 const NUMBERS: u64 = 4294967296;

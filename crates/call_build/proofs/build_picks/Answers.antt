@@ -9,9 +9,9 @@ use Rattle.call_build.proofs.build_picks.Goals as goal
 pub returns-then-m-ne0 : goal.returns-then-m-ne0
 returns-then-m-ne0 c =
     record {
-  fit = λ j. omega (arith, c.type_inv.picks j);
-  builds = λ L few q site given x e h old F handed. builds_over L q site given _ _ x e _ _ _ h _ old F handed c.if-m-ne0.true;
-}
+      fit = λ j. omega (arith, c.type_inv.picks j);
+      builds = λ L few q site given x e h old F handed. builds_over L q site given _ _ x e _ _ _ h _ old F handed c.if-m-ne0.true;
+    }
 
 pub picks_length-held-requires : goal.picks_length-held-requires
 picks_length-held-requires c = let r = c.requires.by_index.1 in (tabled r.limits_are r.case _ _ r.held.grounded c.if-m-ne0.false).fits
@@ -70,7 +70,7 @@ returns-in-Word c =
 pub returns-in-Clear : goal.returns-in-Clear
 returns-in-Clear c =
     record {
-      fit = λ j. omega (arith, c.type_inv.table j);
+      fit = λ j. omega (arith, c.type_inv.picks j);
       builds = λ L few q site given x e h old F handed.
           let is = (tabled L x.case _ _ h.grounded c.if-m-ne0.false).is in
           builds_built L q site given _ _ x e _ _ _ h _ old F handed c.if-m-ne0.false _ (c.picks_length-held.ensures.picks _ is)

@@ -22,8 +22,7 @@ pub nodes_of-t-requires : goal.nodes_of-t-requires
 nodes_of-t-requires c = begun_rule _ _ _ c.requires
 
 pub domain-bytes-requires : goal.domain-bytes-requires
-domain-bytes-requires c =
-    (
+domain-bytes-requires c = (
   begun_names _ _ _ c.requires _ c.names_of.ensures,
   begun_relations _ _ _ c.requires _ c.relations_of-g.ensures.0 c.relations_of-g.ensures.1,
   c.nodes_of-t.ensures.fits,
@@ -36,8 +35,7 @@ pub returns-then-out-bytes : goal.returns-then-out-bytes
 returns-then-out-bytes c = λ site table front z. stated_short _ site _ _ _ table front z (sym c.if-no-ne0.false ∙ c.refusal-no.ensures) _ c.names_of.ensures _ c.relations_of-g.ensures.0 c.relations_of-g.ensures.1 _ c.nodes_of-t.ensures _ _ _ c.domain-bytes.ensures (omega arith)
 
 pub domain-requires : goal.domain-requires
-domain-requires c =
-    (
+domain-requires c = (
   begun_names _ _ _ c.requires _ c.names_of.ensures,
   begun_relations _ _ _ c.requires _ c.relations_of-g.ensures.0 c.relations_of-g.ensures.1,
   c.nodes_of-t.ensures.fits,

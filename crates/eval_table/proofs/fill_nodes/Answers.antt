@@ -54,8 +54,8 @@ pub loop-v-preserved : goal.loop-v-preserved
 loop-v-preserved c =
     let l = c.loop-v in let e = c.node_line-line.ensures in let q = e.0 ∙ ap (λ (σ : ℕ). node_numbers (node_of (get_or c.args.ranges.count σ 0) c.args.t (get_or c.args.t.rows l.v no_node))) c.wide.ensures.0 in (
       omega (arith, c.loop-v-test.true),
-      c.store.auto.0 ∙ l.invariant.1,
-      node_turn c.args.ranges.count c.args.t l.lines c.args.lines.now c.store.new.0 l.v _ c.requires.0 (few ((goal.at.loop-v-preserved c).In-loop-v)) q l.invariant.2 c.store.ensures,
+      c.store.auto.table ∙ l.invariant.1,
+      node_turn c.args.ranges.count c.args.t l.lines c.args.lines.now c.store.new.table l.v _ c.requires.0 (few ((goal.at.loop-v-preserved c).In-loop-v)) q l.invariant.2 c.store.ensures,
       one_more (λ (u : ℕ). Most (node_lines c.args.ranges.count c.args.t u) (2 ^ 32)) l.v l.invariant.3 (subst (λ (xs : List ℕ). Most xs (2 ^ 32)) q e.1),
     )
 

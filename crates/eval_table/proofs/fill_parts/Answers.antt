@@ -48,13 +48,13 @@ pub loop-i-preserved : goal.loop-i-preserved
 loop-i-preserved c =
     let e = c.part_line-line.ensures in (
       omega arith,
-      c.store.auto.0 ∙ c.loop-i.invariant.1,
+      c.store.auto.table ∙ c.loop-i.invariant.1,
       part_turn c.args.n c.args.value
           c.args.g
           c.args.t
           c.loop-i.lines
           c.args.lines.now
-          c.store.new.0 c.loop-i.i _
+          c.store.new.table c.loop-i.i _
           c.requires.0
           (omega (arith, c.requires.4.few_parts)) e.0
           c.loop-i.invariant.2 c.store.ensures,

@@ -23,7 +23,7 @@ pub slice_bounds-initial_state-end-2 : goal.slice_bounds-initial_state-end-2
 slice_bounds-initial_state-end-2 c = sym (length-take-le _ _ (omega arith))
 
 pub initial_state-requires : goal.initial_state-requires
-initial_state-requires c = let a = c.args in let opens = c.open_case-f.ensures in begun_fits _ _ _ a.state.now 0 _ _ _ opens c.if-f-ne0.false c.if-m-ne0.false (omega arith)
+initial_state-requires c = let a = c.args in let opens = c.open_case-f.ensures in let q = begun_fits _ _ _ a.state.now 0 _ _ _ opens c.if-f-ne0.false c.if-m-ne0.false (omega arith) in record { fits = q.0; table_in_bounds = q.1 }
 
 pub returns : goal.returns
 returns c =

@@ -13,7 +13,7 @@ step-ended-requires c = record { fits = (c.requires.0, omega (arith, c.requires.
 pub returns : goal.returns
 returns c =
     let s = c.step-ended in let m = c.marks in (
-  omega (arith, m.ensures.0, s.ensures.0),
-  λ p G R. end_marks p _ _ _ _ (s.ensures.1 p (finish p) R (finish_is p).0 (c.finish_act-a.ensures ∙ sym (finish_are p _ R.is)) (finish_number p _ R.is _ c.node_line-last.ensures))
-      (m.ensures.1 p G (ready_as R s.auto.0)),
-)
+      omega (arith, m.ensures.0, s.ensures.0),
+      λ p G R. end_marks p _ _ _ _ (s.ensures.1 p (finish p) R (finish_is p).0 (c.finish_act-a.ensures ∙ sym (finish_are p _ R.is)) (finish_number p _ R.is _ c.node_line-last.ensures))
+          (m.ensures.1 p G (ready_as R s.auto.state)),
+    )

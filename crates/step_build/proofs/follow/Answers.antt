@@ -9,20 +9,22 @@ use Rattle.step_build.proofs.follow.Goals as goal
 
 pub step-begun-requires : goal.step-begun-requires
 step-begun-requires c =
-    record { fits = (
-    c.requires.0,
-    omega (
-      arith,
-      c.set_picks-picked.ensures.0,
-    ),
-  ); act_fits = tt }
+    record {
+      fits = (
+        c.requires.0,
+        omega (
+          arith,
+          c.set_picks-picked.ensures.0,
+        ),
+      );
+      act_fits = tt;
+    }
 
 pub write_last-requires : goal.write_last-requires
-write_last-requires c =
-    (
+write_last-requires c = (
   c.requires.0,
   c.write_rounds-written.ensures.0,
-  c.requires.1 ∙ sym (c.write_rounds-written.auto.0 ∙ c.step-begun.auto.0 ∙ c.set_picks-picked.auto.0),
+  c.requires.1 ∙ sym (c.write_rounds-written.auto.state ∙ c.step-begun.auto.state ∙ c.set_picks-picked.auto.state),
 )
 
 pub returns : goal.returns
@@ -31,13 +33,13 @@ returns c =
     let p = problem_of x in
     let v = rounds_are x F _ _ B _ c.rounds-last.ensures.2 in
     let S = a.ensures.1 p B.ready in
-    let O = b.ensures.1 p begin_proof (ready_as B.ready a.kept.0) (begin_is p) begin_said (begin_number p _ B.ready.is _ c.relation_line-first.ensures) in
-    let W = w.ensures.1 x F (building_as B (b.kept.0 ∙ a.kept.0)) (omega (
+    let O = b.ensures.1 p begin_proof (ready_as B.ready a.auto.state) (begin_is p) begin_said (begin_number p _ B.ready.is _ c.relation_line-first.ensures) in
+    let W = w.ensures.1 x F (building_as B (b.auto.state ∙ a.auto.state)) (omega (
       arith,
       c.rounds-last.ensures.0,
     )) (begins_first x F _ _ B _ same _ _ e _ S _ O) in
     follows_all x F _ _ B _ same _ _ e _ S _ O _
-    (rounds_last x F _ _ _ _ W (t.ensures x F (building_as B (w.auto.0 ∙ b.kept.0 ∙ a.kept.0)) (omega (
+    (rounds_last x F _ _ _ _ W (t.ensures x F (building_as B (w.auto.state ∙ b.auto.state ∙ a.auto.state)) (omega (
       arith,
       c.rounds-last.ensures.0,
     )) W.begins (ended_at x F _ _ z (omega (

@@ -11,39 +11,42 @@ overflow_add-last c = omega (arith, acts_few _ c.requires.0 _ _ c.node_line-last
 pub overflow_add-last-2 : goal.overflow_add-last-2
 overflow_add-last-2 c =
     omega (
-  arith,
-  acts_few _ c.requires.0 _ _ c.node_line-last.ensures,
-  c.every_tuples-count.ensures,
-  every_few _ c.requires.0,
-)
+      arith,
+      acts_few _ c.requires.0 _ _ c.node_line-last.ensures,
+      c.every_tuples-count.ensures,
+      every_few _ c.requires.0,
+    )
 
 pub overflow_add-last-3 : goal.overflow_add-last-3
 overflow_add-last-3 c =
     omega (
-  arith,
-  acts_few _ c.requires.0 _ _ c.node_line-last.ensures,
-  c.requires.1,
-  c.every_tuples-count.ensures,
-  every_few _ c.requires.0,
-)
+      arith,
+      acts_few _ c.requires.0 _ _ c.node_line-last.ensures,
+      c.requires.1,
+      c.every_tuples-count.ensures,
+      every_few _ c.requires.0,
+    )
 
 pub step-requires : goal.step-requires
 step-requires c =
-    record { fits = (
-    c.requires.0,
-    c.requires.2,
-  ); act_fits = (
-    omega (
-      arith,
-      c.requires.0.relations,
-      some_relation _ _ c.requires.1,
-    ),
-    omega (
-      arith,
-      c.requires.1,
-      every_few _ c.requires.0,
-    ),
-  ) }
+    record {
+      fits = (
+        c.requires.0,
+        c.requires.2,
+      );
+      act_fits = (
+        omega (
+          arith,
+          c.requires.0.relations,
+          some_relation _ _ c.requires.1,
+        ),
+        omega (
+          arith,
+          c.requires.1,
+          every_few _ c.requires.0,
+        ),
+      );
+    }
 
 pub returns : goal.returns
 returns c =

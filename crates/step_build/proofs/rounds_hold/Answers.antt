@@ -34,11 +34,11 @@ pub loop-k-preserved : goal.loop-k-preserved
 loop-k-preserved c =
     let l = c.loop-k in let q = c.prove_round in let t = c.end_round in (
       omega arith,
-      t.auto.0 ∙ q.auto.0 ∙ l.invariant.1,
-      t.auto.1.0 ∙ l.invariant.2,
+      t.auto.state ∙ q.auto.state ∙ l.invariant.1,
+      t.auto.steps ∙ l.invariant.2,
       λ x F B e. let I = l.invariant.3 x F B e in let v = rounds_are x F _ _ B _ c.rounds-last.ensures.2 in let h : l.k < values x = omega arith in
           let Q = q.ensures x F _ (building_as B l.invariant.1) h I.0 in (
-            next_state x F _ _ _ _ (out _ _ _) Q.1 (t.ensures.1 (problem_of x) (good x B.case) (ready_as B.ready (q.auto.0 ∙ l.invariant.1))),
+            next_state x F _ _ _ _ (out _ _ _) Q.1 (t.ensures.1 (problem_of x) (good x B.case) (ready_as B.ready (q.auto.state ∙ l.invariant.1))),
             I.1 ∙ hold_next (round_holds x F) _ _ h (sym Q.0 ∙ c.if-prove_round.true),
           ),
     )

@@ -11,6 +11,6 @@ pub returns : goal.returns
 returns c =
     let q = c.requires in let b = c.initial_state in let s = c.set_picks in let t = c.take in let h = c.rounds_hold in let a = c.args in λ x F room P n.
     let B = builds x F _ _ _ _ room P n q.1 a.left.now q.2 in
-    h.ensures x F (B _ (t.auto.0 ∙ s.auto.0 ∙ b.auto.1.1.0))
-    (taken_first x F _ _ (B _ (s.auto.0 ∙ b.auto.1.1.0)) _ P.picked _ _ (started x F _ _ _ _ room P n q.1 a.left.now q.2 _ b.ensures) _
-    (s.ensures.1 (problem_of x) (B _ b.auto.1.1.0).ready) _ t.ensures)
+    h.ensures x F (B _ (t.auto.state ∙ s.auto.state ∙ b.auto.state))
+    (taken_first x F _ _ (B _ (s.auto.state ∙ b.auto.state)) _ P.picked _ _ (started x F _ _ _ _ room P n q.1 a.left.now q.2 _ b.ensures) _
+    (s.ensures.1 (problem_of x) (B _ b.auto.state).ready) _ t.ensures)

@@ -11,8 +11,7 @@ product : (a b : ℕ) → a ≤ 2 ^ 16 → b ≤ 2 ^ 16 → a * b ≤ 2 ^ 16 * 2
 product a b h k = mul-le-mul h k
 
 pub returns-then-whole : goal.returns-then-whole
-returns-then-whole c =
-    (
+returns-then-whole c = (
   count_whole _ _ c.requires.3 _ c.if-whole.true c.tuples_in.ensures,
   omega (arith, c.tuples_in.ensures, c.requires.0),
   λ e. absurd (false≢true (sym e ∙ c.if-whole.true)),

@@ -29,8 +29,8 @@ loop-r-preserved c =
       omega arith,
       omega (arith, c.set_relation-k.ensures.0),
       omega (arith, c.words_in-word.ensures, w.3),
-      c.set_relation-k.auto.0 ∙ k.invariant.3,
-      c.set_relation-k.auto.1.0 ∙ k.invariant.4,
+      c.set_relation-k.auto.state ∙ k.invariant.3,
+      c.set_relation-k.auto.steps ∙ k.invariant.4,
       λ p R.
           let I = k.invariant.5 p R in let h : k.r < length p.relations = omega (arith, R.is.relations) in (
             ap (λ (z : ℕ). k.word + z) c.words_in-word.ensures ∙ word_next p _ R.is _ h _ c.relation_line-line.ensures _ I.0,

@@ -10,7 +10,7 @@ use Rattle.step_build.specs.Setting.{set_relations}
 use Rattle.step_build.proofs.set_picks.Given as goal
 
 abbrev pub invariant-loop-r : goal.invariant-loop-r
-invariant-loop-r l =     (l.r ≤ relations_in l.table) × (l.k ≤ l.r * 2 ^ 32) × (l.word ≤ l.r * 2 ^ 27) × (length l.state ≡ length l.initial.state) × (length l.steps ≡ length l.initial.steps)
+invariant-loop-r l = (l.r ≤ relations_in l.table) × (l.k ≤ l.r * 2 ^ 32) × (l.word ≤ l.r * 2 ^ 27) × (length l.state ≡ length l.initial.state) × (length l.steps ≡ length l.initial.steps)
     × ((p : Problem) → ReadyToFollow p l.table (length l.initial.state) → (l.word ≡ word_start p l.r)
     × (set_relations p (rows_in p l.picks) (out (bit l.initial.state) l.initial.steps 0) 0 (length p.relations)
     ≡ set_relations p (rows_in p l.picks) (out (bit l.state) l.steps l.k) l.r (length p.relations - l.r)))

@@ -14,9 +14,9 @@ set_rows-requires c = let s = c.requires in let count = c.set_count-count.ensure
 pub returns-then-is_chosen : goal.returns-then-is_chosen
 returns-then-is_chosen c =
     let count = c.set_count-count in let taken = c.set_rows in (
-  omega (arith, taken.ensures.0, count.ensures.1),
-  λ p R l e. relation_yes p _ R.is _ l _ e (λ (i : ℕ). bit _ _) _ _ _ (sym c.is_chosen.ensures ∙ c.if-is_chosen.true) c.requires.2 count.ensures.0 (λ n. taken.ensures.1 p R l e n),
-)
+      omega (arith, taken.ensures.0, count.ensures.1),
+      λ p R l e. relation_yes p _ R.is _ l _ e (λ (i : ℕ). bit _ _) _ _ _ (sym c.is_chosen.ensures ∙ c.if-is_chosen.true) c.requires.2 count.ensures.0 (λ n. taken.ensures.1 p R l e n),
+    )
 
 pub returns : goal.returns
 returns c = (omega arith, λ p R l e. relation_no p _ R.is _ l _ e (λ (i : ℕ). bit _ _) _ (sym c.is_chosen.ensures ∙ c.if-is_chosen.false))

@@ -48,8 +48,8 @@ loop-off-preserved c =
     let turn = c.loop-off in let s = c.requires in let a = c.args in let row = c.row_at-row in let taken = c.set_row-k in let test = c.test-picked in let f = c.next_offset-off-in-loop-off.ensures in (
       f.1,
       omega (arith, taken.ensures.0, f.0),
-      taken.auto.0 ∙ turn.invariant.2,
-      taken.auto.1.0 ∙ turn.invariant.3,
+      taken.auto.state ∙ turn.invariant.2,
+      taken.auto.steps ∙ turn.invariant.3,
       λ p R l e n.
           let h : turn.off < sets_of p.size p.range (relation_at p a.relation) = omega arith in
           let at = row_is p _ R.is _ l _ _ h refl _ e s.fits.2 _ row.ensures in

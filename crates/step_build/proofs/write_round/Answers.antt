@@ -13,5 +13,5 @@ returns c =
           let K = f.ensures (problem_of x) (good x B.case) _ (fills x F _ _ B) (omega (arith, B.ready.is.nodes)) (end_is x F _ _ B) (known_first x F _ _ B _ h _ e) in
           let z = filled_is x F _ _ B _ h _ _ e K in
           round_told x F _ _ B _ h _ _ _ _ _ e (w.ensures.1 (problem_of x) (good x B.case) _ (readable x F _ _ B _ h _ z) (omega (arith, B.ready.is.nodes)) (end_is x F _ _ B)) _ _ z
-          (t.ensures.1 (problem_of x) (good x B.case) (ready_as B.ready f.auto.0)),
+          (t.ensures.1 (problem_of x) (good x B.case) (ready_as B.ready f.auto.state)),
     )

@@ -17,12 +17,11 @@ pub overflow_cast-steps : goal.overflow_cast-steps
 overflow_cast-steps c = omega (arith, c.type_inv.steps c.loop-i.i)
 
 pub loop-i-preserved : goal.loop-i-preserved
-loop-i-preserved c =
-    (
-      omega arith,
-      λ p is. c.loop-i.invariant.1 p is ∙ test_next _ _ c.loop-i.i true (omega arith) (sym (c.may.ensures p is) ∙ c.if-may.true)
-          ∙ ap (λ (m : ℕ). all (may_at p (bit c.args.state.now)) (drop m c.args.steps.now)) (sym (add-one c.loop-i.i)),
-    )
+loop-i-preserved c = (
+  omega arith,
+  λ p is. c.loop-i.invariant.1 p is ∙ test_next _ _ c.loop-i.i true (omega arith) (sym (c.may.ensures p is) ∙ c.if-may.true)
+      ∙ ap (λ (m : ℕ). all (may_at p (bit c.args.state.now)) (drop m c.args.steps.now)) (sym (add-one c.loop-i.i)),
+)
 
 pub returns-else-may : goal.returns-else-may
 returns-else-may c = λ p is. sym (c.loop-i.invariant.1 p is ∙ test_next _ _ c.loop-i.i false (omega arith) (sym (c.may.ensures p is) ∙ c.if-may.false))

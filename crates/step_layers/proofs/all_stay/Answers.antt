@@ -17,12 +17,11 @@ pub overflow_cast-steps : goal.overflow_cast-steps
 overflow_cast-steps c = omega (arith, c.type_inv.steps c.loop-i.i)
 
 pub loop-i-preserved : goal.loop-i-preserved
-loop-i-preserved c =
-    (
-      omega arith,
-      λ p is. c.loop-i.invariant.1 p is ∙ test_next _ _ c.loop-i.i true (omega arith) (sym (c.stay.ensures p is) ∙ c.if-stay.true)
-          ∙ ap (λ (m : ℕ). all (stay_at p (bit c.args.state.now)) (drop m c.args.steps.now)) (sym (add-one c.loop-i.i)),
-    )
+loop-i-preserved c = (
+  omega arith,
+  λ p is. c.loop-i.invariant.1 p is ∙ test_next _ _ c.loop-i.i true (omega arith) (sym (c.stay.ensures p is) ∙ c.if-stay.true)
+      ∙ ap (λ (m : ℕ). all (stay_at p (bit c.args.state.now)) (drop m c.args.steps.now)) (sym (add-one c.loop-i.i)),
+)
 
 pub returns-else-stay : goal.returns-else-stay
 returns-else-stay c = λ p is. sym (c.loop-i.invariant.1 p is ∙ test_next _ _ c.loop-i.i false (omega arith) (sym (c.stay.ensures p is) ∙ c.if-stay.false))

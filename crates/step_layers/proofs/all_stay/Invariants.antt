@@ -10,7 +10,7 @@ use Rattle.step_layers.specs.Tests.{stay_at}
 use Rattle.step_layers.proofs.all_stay.Given as goal
 
 abbrev pub invariant-loop-i : goal.invariant-loop-i
-invariant-loop-i l =     (l.i ≤ length l.steps) × ((p : Problem) → Is p l.table → all (stay_at p (bit l.state)) l.steps ≡ all (stay_at p (bit l.state)) (drop l.i l.steps))
+invariant-loop-i l = (l.i ≤ length l.steps) × ((p : Problem) → Is p l.table → all (stay_at p (bit l.state)) l.steps ≡ all (stay_at p (bit l.state)) (drop l.i l.steps))
 
 abbrev pub decreases-loop-i : goal.decreases-loop-i
 decreases-loop-i l = length l.steps - l.i

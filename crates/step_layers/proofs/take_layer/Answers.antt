@@ -9,7 +9,7 @@ use Rattle.step_layers.proofs.take_layer.Goals as goal
 pub returns-then-all_stay : goal.returns-then-all_stay
 returns-then-all_stay c =
     λ p G plain is room. let w = layer_taken p (bit c.args.state.now) G plain c.args.steps.now (sym (c.are_actions.ensures p is) ∙ c.if-are_actions.true)
-    (bit c.run-e.new.0) (sym (c.all_may.ensures p is) ∙ c.if-all_may.true)
+    (bit c.run-e.new.state) (sym (c.all_may.ensures p is) ∙ c.if-all_may.true)
     (ap was_taken (sym (c.run-e.ensures p is room).0) ∙ sym (taken_is c.run-e.result) ∙ sym c.all_taken.ensures
     ∙ c.if-all_taken.true) (c.run-e.ensures p is room).1 (sym (c.all_stay.ensures p is) ∙ c.if-all_stay.true) in
     (sym w.0, λ _. w.1)
@@ -18,7 +18,7 @@ pub returns-then-all_taken : goal.returns-then-all_taken
 returns-then-all_taken c =
     λ p G plain is room. (
       sym (layer_not_stay p (bit c.args.state.now) G plain c.args.steps.now (sym (c.are_actions.ensures p is) ∙ c.if-are_actions.true)
-          (bit c.run-e.new.0) (sym (c.all_may.ensures p is) ∙ c.if-all_may.true)
+          (bit c.run-e.new.state) (sym (c.all_may.ensures p is) ∙ c.if-all_may.true)
           (ap was_taken (sym (c.run-e.ensures p is room).0) ∙ sym (taken_is c.run-e.result) ∙ sym c.all_taken.ensures
           ∙ c.if-all_taken.true) (c.run-e.ensures p is room).1 (sym (c.all_stay.ensures p is) ∙ c.if-all_stay.false)),
       λ e. absurd (omega (arith, e)),
