@@ -1,5 +1,6 @@
 // The desk program's reply (document 01, "The desk program"): every byte that it prints, for every input.
 #![tactic(auto)]
+
 ghost use Rattle.std.specs.Prelude.{◌≡◌, false, List, ℕ, ◌≤◌, length};
 ghost use Rattle.definitions.specs.Limits.{early};
 ghost use Rattle.definitions.specs.Refusal.{refused, accepted};

@@ -1,6 +1,7 @@
 // Yes or no: whether the rule is true of picks, which are handed over as a text or lent as words. No step is built, and no atom has a
 // number: the rule is evaluated on the bits of facts and picks.
 #![tactic(auto)]
+
 ghost use Rattle.std.specs.Prelude.{◌≡◌, true, false, List, ◌^◌, ◌<◌, ◌≤◌, length};
 ghost use Rattle.definitions.specs.Limits.{usual};
 ghost use Rattle.definitions.specs.Sheet.Relations.{Tuple};

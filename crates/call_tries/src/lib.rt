@@ -1,5 +1,6 @@
 // Many step lists for one case: each record of a lent table gets the number and the place that a check of its list alone would return.
 #![tactic(auto)]
+
 ghost use Rattle.std.specs.Prelude.{◌≡◌, ◌<◌, ◌≤◌, length as «length_of»};
 ghost use Rattle.definitions.specs.Limits.{usual};
 ghost use Rattle.definitions.specs.Problem.Atoms.{Problem};

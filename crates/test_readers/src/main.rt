@@ -1,6 +1,7 @@
 // Runs small sheets, good and damaged, through the four readers and writes what each gives: `ok` with its numbers, or the refusal's
 // number and place.
 #![tactic(auto)]
+
 use read_sheets::Answer;
 
 // A number after a space.

@@ -10,11 +10,6 @@ use Rattle.call_desk.specs.Known.{own, case_known, picks_roomy}
 use Rattle.call_desk.specs.Planned.{plan_refused, text_refused, picks_taken, is_picked}
 use borrow.Author.Rules.{rules}
 use Rattle.call_desk.proofs.build.Goals as goal
-use Rattle.call_desk.proofs.build.Goals.{After-picks-a}
-
--- from where the picks were read to the start
-abbrev start : tie.After-picks2 → tie.Start
-start p = p.before.before.before.before.before.before.before.before.before.before.before.before.before.before.before.before.before.before
 
 pub open_early-f-requires : goal.open_early-f-requires
 open_early-f-requires c = record { facts_room = (few_room _, no_label_words, zeros_clear 512); table_len = (search rules, most_zeros table_length 0) }
@@ -30,13 +25,13 @@ picks-a-requires c =
     record { sound_signature = (K.held.holds.sound, K.held.holds.few_elements, picks_roomy _ _ _ _ _ _ K _ (omega arith), zeros_clear 256); labels_are = (K.filed.labels, K.labelled) }
 
 pub refuse-requires-in-Refused : goal.refuse-requires-in-Refused
-refuse-requires-in-Refused c = (start (goal.at.refuse-requires-in-Refused c).After-picks-a).requires.1
+refuse-requires-in-Refused c = c.requires.1
 
 pub build_case-requires : goal.build_case-requires
 build_case-requires c =
     let f = c.open_early-f.ensures in let K = case_known _ _ _ _ _ _ f c.if-f-ne0.false in
     let x = c.picks-a.ensures K.filed.labels K.labelled in
-    let s = (start (goal.at.build_case-requires c).After-picks-a).requires in let t = c.in-Done.is in (is_picked _ _ _ _ _ _ K _ _ x.0 _ x.1 _ t s.0, omega arith, s.1)
+    let s = c.requires in let t = c.in-Done.is in (is_picked _ _ _ _ _ _ K _ _ x.0 _ x.1 _ t s.0, omega arith, s.1)
 
 pub returns-in-Refused : goal.returns-in-Refused
 returns-in-Refused c =

@@ -14,11 +14,6 @@ use Rattle.call_desk.specs.Known.{own, case_known}
 use Rattle.call_desk.specs.Checked.{checked_refused, text_fault, steps_few}
 use borrow.Author.Rules.{rules}
 use Rattle.call_desk.proofs.check.Goals as goal
-use Rattle.call_desk.proofs.check.Goals.{After-steps-a, After-table-in-Done-1}
-
--- from where the steps were read to the start
-abbrev start : tie.After-steps2 → tie.Start
-start x = x.before.before.before.before.before.before.before.before.before.before.before.before.before.before.before
 
 pub open_early-f-requires : goal.open_early-f-requires
 open_early-f-requires c = record { facts_room = (few_room _, no_label_words, zeros_clear 512); table_len = (search rules, most_zeros table_length 0) }
@@ -29,22 +24,22 @@ returns-then-f-ne0 c =
     answer_as _ _ _ _ _ (checked_refused _ _ _ _ _ (front_refused own _ _ _ _ _ a c.if-f-ne0.true)) c.refuse.ensures
 
 pub refuse-requires-in-Refused : goal.refuse-requires-in-Refused
-refuse-requires-in-Refused c = (start (goal.at.refuse-requires-in-Refused c).After-steps-a).requires.1
+refuse-requires-in-Refused c = c.requires.1
 
 pub slice_bounds-steps-end-in-Done : goal.slice_bounds-steps-end-in-Done
 slice_bounds-steps-end-in-Done c =
     omega (
       arith,
       text_room _ [] _ _ 9362 c.steps-a.ensures.0
-          c.in-Done.is (λ h. omega (arith, (start (goal.at.slice_bounds-steps-end-in-Done c).After-steps-a).requires.0)),
+          c.in-Done.is (λ h. omega (arith, c.requires.0)),
     )
 
 pub slice_bounds-check_case-end-in-Done-3 : goal.slice_bounds-check_case-end-in-Done-3
-slice_bounds-check_case-end-in-Done-3 c = sym (length-take-le _ _ (omega (arith, few (goal.at.slice_bounds-check_case-end-in-Done-3 c).After-table-in-Done-1)))
+slice_bounds-check_case-end-in-Done-3 c = sym (length-take-le _ _ (omega (arith, text_room _ [] _ _ 9362 c.steps-a.ensures.0 c.in-Done.is (λ h. omega (arith, c.requires.0)))))
 
 pub check_case-requires : goal.check_case-requires
 check_case-requires c =
-    let d = c.in-Done.is in let p = (start (goal.at.check_case-requires c).After-steps-a).requires in let t = text_taken _ _ _ _ c.steps-a.ensures.0 d _ (c.steps-a.ensures.1 _ d) in
+    let d = c.in-Done.is in let p = c.requires in let t = text_taken _ _ _ _ c.steps-a.ensures.0 d _ (c.steps-a.ensures.1 _ d) in
     (case_known _ _ _ _ _ _ c.open_early-f.ensures c.if-f-ne0.false, steps_few _ _ t p.0, p.1)
 
 pub returns-in-Refused : goal.returns-in-Refused

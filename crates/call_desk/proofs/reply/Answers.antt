@@ -7,22 +7,22 @@ use Rattle.call_desk.specs.Whole.{answers_long, answers_checked, answers_built}
 use Rattle.call_desk.proofs.reply.Goals as goal
 
 pub returns-then-input-gt16384 : goal.returns-then-input-gt16384
-returns-then-input-gt16384 c = answers_long _ _ _ _ (omega (arith, c.if-input-gt16384.true)) c.refuse.ensures
+returns-then-input-gt16384 c =
+    let k = answers_long _ _ _ _ (omega (arith, c.if-input-gt16384.true)) c.refuse.ensures in
+    record { count = k.0; bytes = k.1.0; front = k.1.1 }
 
 pub slice_bounds-check-end-then-c : goal.slice_bounds-check-end-then-c
 slice_bounds-check-end-then-c c = let x = c.cut_input-c.ensures in sym (length-take-le _ _ (omega (arith, x.asked, x.within)))
 
 pub returns-then-c : goal.returns-then-c
 returns-then-c c =
-    answers_checked _ _ _ _ (omega (arith, c.if-input-gt16384.false)) _ _ _ c.cut_input-c.ensures c.if-c.true _
-    (part_to_end c.args.input.now c.cut_input-c.result.site)
-    c.check.ensures
+    let k = answers_checked _ _ _ _ (omega (arith, c.if-input-gt16384.false)) _ _ _ c.cut_input-c.ensures c.if-c.true _ (part_to_end c.args.input.now c.cut_input-c.result.site) c.check.ensures in
+    record { count = k.0; bytes = k.1.0; front = k.1.1 }
 
 pub slice_bounds-build-end-2 : goal.slice_bounds-build-end-2
 slice_bounds-build-end-2 c = let x = c.cut_input-c.ensures in sym (length-take-le _ _ (omega (arith, x.asked, x.within)))
 
 pub returns : goal.returns
 returns c =
-    answers_built _ _ _ _ (omega (arith, c.if-input-gt16384.false)) _ _ _ c.cut_input-c.ensures c.if-c.false _
-    (part_to_end c.args.input.now c.cut_input-c.result.site)
-    c.build.ensures
+    let k = answers_built _ _ _ _ (omega (arith, c.if-input-gt16384.false)) _ _ _ c.cut_input-c.ensures c.if-c.false _ (part_to_end c.args.input.now c.cut_input-c.result.site) c.build.ensures in
+    record { count = k.0; bytes = k.1.0; front = k.1.1 }

@@ -12,6 +12,6 @@ pub returns-in-Refused : goal.returns-in-Refused
 returns-in-Refused c = λ filed z. call_text_refused _ _ _ _ _ filed z _ _ _ c.picks-a.ensures _ _ c.in-Refused.is
 
 pub returns-in-Done : goal.returns-in-Done
-returns-in-Done c = λ filed z. 
+returns-in-Done c = λ filed z.
     call_text _ _ _ _ _ filed z _ _ _ c.picks-a.ensures _ c.in-Done.is _ c.words-1.given
     c.requires.picks_room.0 _ c.judge_case.ensures
