@@ -1,5 +1,6 @@
 // The least picks of the declared kinds that make the rule true, for a site without a planner.
 #![tactic(auto)]
+
 ghost use Rattle.std.specs.Prelude.{◌≡◌, false, List, ℕ, ◌≤◌, length};
 ghost use Rattle.definitions.specs.Limits.{usual};
 ghost use Rattle.definitions.specs.Problem.Truth.{Case};

@@ -1,5 +1,6 @@
 // Rules that only ever want more: whether some picks make the rule true, by all tuples picked.
 #![tactic(auto)]
+
 ghost use Rattle.std.specs.Prelude.{◌≡◌, false, not, List, ℕ, ◌+◌, ◌≤◌, ◌<◌, length};
 ghost use Rattle.definitions.specs.Limits.{usual};
 ghost use Rattle.definitions.specs.Lists.{any, below};

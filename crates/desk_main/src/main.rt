@@ -1,17 +1,18 @@
 // The desk program: one case from standard input, the reply to standard output. A read or a write that fails is told on standard error,
 // and of an input that was not read to its end nothing is said on standard output.
 #![tactic(auto)]
+
 ghost use Rattle.std.specs.Prelude.{◌≤◌, length, IfOk};
 ghost use Rattle.io.specs.Counts.{IsPrefixLen};
 
 use std::io;
-use std::io::{Read, Write};
+use std::io::{Read, Stdin, Write};
 
 // Room for the input, and for a byte more than the program reads, so that an input that is too long is seen to be.
 const INPUT: usize = 16385;
 
 // One read, to the bytes from `at` on: how many bytes are in then.
-fn read_more<R: Read>(from: &mut R, input: &mut [u8], at: usize) -> io::Result<usize>
+fn read_more(from: &mut Stdin, input: &mut [u8], at: usize) -> io::Result<usize>
     requires { at ≤ length input.old }
     ensures { IfOk result (λ count. (at ≤ count) × (count ≤ length input.old)) }
 {
@@ -21,7 +22,7 @@ fn read_more<R: Read>(from: &mut R, input: &mut [u8], at: usize) -> io::Result<u
 }
 
 // Reads until the input ends, there is no room left or a read fails.
-fn read_input<R: Read>(from: &mut R, input: &mut [u8]) -> io::Result<usize>
+fn read_input(from: &mut Stdin, input: &mut [u8]) -> io::Result<usize>
     ensures { IfOk result (λ count. IsPrefixLen count input.new) }
 {
     let mut at = 0;

@@ -9,16 +9,16 @@ use Rattle.call_build_layers.proofs.build_picks.Goals as goal
 pub returns-then-m-ne0 : goal.returns-then-m-ne0
 returns-then-m-ne0 c =
     record {
-  fit = λ j. omega (arith, c.type_inv.picks j);
-  builds = λ L few q site given x e h u old F handed. builds_over L q site given _ _ _ x e _ _ _ h _ old F handed c.if-m-ne0.true;
-}
+      fit = λ j. omega (arith, c.type_inv.picks j);
+      builds = λ L few q site given x e h u old F handed. builds_over L q site given _ _ _ x e _ _ _ h _ old F handed c.if-m-ne0.true;
+    }
 
 pub returns-then-f-ne0 : goal.returns-then-f-ne0
 returns-then-f-ne0 c =
     record {
-  fit = λ j. omega (arith, c.type_inv.picks j);
-  builds = λ L few q site given x e h u old F handed. builds_every L q site given _ _ _ x e _ _ _ h _ old F handed c.if-m-ne0.false c.if-f-ne0.true;
-}
+      fit = λ j. omega (arith, c.type_inv.picks j);
+      builds = λ L few q site given x e h u old F handed. builds_every L q site given _ _ _ x e _ _ _ h _ old F handed c.if-m-ne0.false c.if-f-ne0.true;
+    }
 
 pub picks_length-held-requires : goal.picks_length-held-requires
 picks_length-held-requires c = let r = c.requires.by_index.1 in (tabled r.limits_are r.case _ _ r.held.grounded c.if-m-ne0.false).fits
@@ -26,11 +26,11 @@ picks_length-held-requires c = let r = c.requires.by_index.1 in (tabled r.limits
 pub returns-then-picks-held : goal.returns-then-picks-held
 returns-then-picks-held c =
     record {
-  fit = λ j. omega (arith, c.type_inv.picks j);
-  builds = λ L few q site given x e h u old F handed.
-      let k = c.picks_length-held.ensures.picks _ (tabled L x.case _ _ h.grounded c.if-m-ne0.false).is in
-      builds_picks L q site given _ _ _ x e _ _ _ h _ old F handed c.if-m-ne0.false c.if-f-ne0.false _ k c.if-picks-held.true;
-}
+      fit = λ j. omega (arith, c.type_inv.picks j);
+      builds = λ L few q site given x e h u old F handed.
+          let k = c.picks_length-held.ensures.picks _ (tabled L x.case _ _ h.grounded c.if-m-ne0.false).is in
+          builds_picks L q site given _ _ _ x e _ _ _ h _ old F handed c.if-m-ne0.false c.if-f-ne0.false _ k c.if-picks-held.true;
+    }
 
 pub overflow_add-words : goal.overflow_add-words
 overflow_add-words c = omega (arith, c.requires.atoms_bound c.if-m-ne0.false)
@@ -38,29 +38,29 @@ overflow_add-words c = omega (arith, c.requires.atoms_bound c.if-m-ne0.false)
 pub returns-then-state-words : goal.returns-then-state-words
 returns-then-state-words c =
     record {
-  fit = λ j. omega (arith, c.type_inv.picks j);
-  builds = λ L few q site given x e h u old F handed.
-      let k = c.picks_length-held.ensures.picks _ (tabled L x.case _ _ h.grounded c.if-m-ne0.false).is in
-      builds_state L q site given _ _ _ x e _ _ _ h _ old F handed c.if-m-ne0.false c.if-f-ne0.false _ k (omega (arith, c.if-picks-held.false)) c.if-state-words.true;
-}
+      fit = λ j. omega (arith, c.type_inv.picks j);
+      builds = λ L few q site given x e h u old F handed.
+          let k = c.picks_length-held.ensures.picks _ (tabled L x.case _ _ h.grounded c.if-m-ne0.false).is in
+          builds_state L q site given _ _ _ x e _ _ _ h _ old F handed c.if-m-ne0.false c.if-f-ne0.false _ k (omega (arith, c.if-picks-held.false)) c.if-state-words.true;
+    }
 
 pub returns-then-steps-bound : goal.returns-then-steps-bound
 returns-then-steps-bound c =
     record {
-  fit = λ j. omega (arith, c.type_inv.picks j);
-  builds = λ L few q site given x e h u old F handed.
-      let k = c.picks_length-held.ensures.picks _ (tabled L x.case _ _ h.grounded c.if-m-ne0.false).is in
-      builds_steps L q site given _ _ _ x e _ _ _ h _ old F handed c.if-m-ne0.false c.if-f-ne0.false _ k (omega (arith, c.if-picks-held.false)) (omega (arith, c.if-state-words.false)) c.if-steps-bound.true;
-}
+      fit = λ j. omega (arith, c.type_inv.picks j);
+      builds = λ L few q site given x e h u old F handed.
+          let k = c.picks_length-held.ensures.picks _ (tabled L x.case _ _ h.grounded c.if-m-ne0.false).is in
+          builds_steps L q site given _ _ _ x e _ _ _ h _ old F handed c.if-m-ne0.false c.if-f-ne0.false _ k (omega (arith, c.if-picks-held.false)) (omega (arith, c.if-state-words.false)) c.if-steps-bound.true;
+    }
 
 pub returns-then-ends-upper : goal.returns-then-ends-upper
 returns-then-ends-upper c =
     record {
-  fit = λ j. omega (arith, c.type_inv.picks j);
-  builds = λ L few q site given x e h u old F handed.
-      let k = c.picks_length-held.ensures.picks _ (tabled L x.case _ _ h.grounded c.if-m-ne0.false).is in
-      builds_ends L q site given _ _ _ x e _ _ _ h _ old F handed c.if-m-ne0.false c.if-f-ne0.false _ k (omega (arith, c.if-picks-held.false)) (omega (arith, c.if-state-words.false)) (omega (arith, c.if-steps-bound.false)) _ u c.if-ends-upper.true;
-}
+      fit = λ j. omega (arith, c.type_inv.picks j);
+      builds = λ L few q site given x e h u old F handed.
+          let k = c.picks_length-held.ensures.picks _ (tabled L x.case _ _ h.grounded c.if-m-ne0.false).is in
+          builds_ends L q site given _ _ _ x e _ _ _ h _ old F handed c.if-m-ne0.false c.if-f-ne0.false _ k (omega (arith, c.if-picks-held.false)) (omega (arith, c.if-state-words.false)) (omega (arith, c.if-steps-bound.false)) _ u c.if-ends-upper.true;
+    }
 
 pub spare_word-s-requires : goal.spare_word-s-requires
 spare_word-s-requires c = let r = c.requires.by_index.1 in (tabled r.limits_are r.case _ _ r.held.grounded c.if-m-ne0.false).fits
@@ -76,20 +76,20 @@ place_built-requires c =
 pub returns-in-Word : goal.returns-in-Word
 returns-in-Word c =
     record {
-  fit = λ j. omega (arith, c.type_inv.picks j);
-  builds = λ L few q site given x e h u old F handed.
-      let is = (tabled L x.case _ _ h.grounded c.if-m-ne0.false).is in
-      builds_spare L q site given _ _ _ x e _ _ _ h _ old F handed c.if-m-ne0.false c.if-f-ne0.false _ (c.picks_length-held.ensures.picks _ is)
-      (omega (arith, c.if-picks-held.false)) (omega (arith, c.if-state-words.false)) (omega (arith, c.if-steps-bound.false)) _ u (omega (arith, c.if-ends-upper.false)) _ (c.spare_word-s.ensures _ is) _ c.in-Word.is;
-}
+      fit = λ j. omega (arith, c.type_inv.picks j);
+      builds = λ L few q site given x e h u old F handed.
+          let is = (tabled L x.case _ _ h.grounded c.if-m-ne0.false).is in
+          builds_spare L q site given _ _ _ x e _ _ _ h _ old F handed c.if-m-ne0.false c.if-f-ne0.false _ (c.picks_length-held.ensures.picks _ is)
+          (omega (arith, c.if-picks-held.false)) (omega (arith, c.if-state-words.false)) (omega (arith, c.if-steps-bound.false)) _ u (omega (arith, c.if-ends-upper.false)) _ (c.spare_word-s.ensures _ is) _ c.in-Word.is;
+    }
 
 pub returns-in-Clear : goal.returns-in-Clear
 returns-in-Clear c =
     record {
-  fit = λ j. omega (arith, c.type_inv.table j);
-  builds = λ L few q site given x e h u old F handed.
-      let is = (tabled L x.case _ _ h.grounded c.if-m-ne0.false).is in
-      builds_built L q site given _ _ _ x e _ _ _ h _ old F handed c.if-m-ne0.false c.if-f-ne0.false _ (c.picks_length-held.ensures.picks _ is)
-      (omega (arith, c.if-picks-held.false)) (omega (arith, c.if-state-words.false)) (omega (arith, c.if-state-words.false)) _ u (omega (arith, c.if-steps-bound.false)) _ (c.spare_word-s.ensures _ is) c.in-Clear.is
-      few _ _ _ _ (c.place_built.ensures x.case F);
-}
+      fit = λ j. omega (arith, c.type_inv.picks j);
+      builds = λ L few q site given x e h u old F handed.
+          let is = (tabled L x.case _ _ h.grounded c.if-m-ne0.false).is in
+          builds_built L q site given _ _ _ x e _ _ _ h _ old F handed c.if-m-ne0.false c.if-f-ne0.false _ (c.picks_length-held.ensures.picks _ is)
+          (omega (arith, c.if-picks-held.false)) (omega (arith, c.if-state-words.false)) (omega (arith, c.if-state-words.false)) _ u (omega (arith, c.if-steps-bound.false)) _ (c.spare_word-s.ensures _ is) c.in-Clear.is
+          few _ _ _ _ (c.place_built.ensures x.case F);
+    }

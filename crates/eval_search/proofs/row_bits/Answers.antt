@@ -1,4 +1,3 @@
-use Prim.Native.Nat.{◌-◌}
 use native.Mathlib.Omega.{arith}
 use Rattle.eval_search.specs.Counts.{rows_start, rows_next, rows_few, rows_end}
 use Rattle.eval_search.proofs.row_bits.Goals as goal

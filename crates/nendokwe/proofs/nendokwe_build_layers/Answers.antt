@@ -4,4 +4,6 @@ use Rattle.definitions.specs.Reply.Outcome.{reply_number, reply_place}
 use Rattle.nendokwe.proofs.nendokwe_build_layers.Goals as goal
 
 pub returns : goal.returns
-returns c = let build-layers-lent = c.build_layers_lent-r in (c.tell.ensures.number_after ∙ ap reply_number build-layers-lent.ensures.answer, (c.tell.ensures.place_after ∙ ap reply_place build-layers-lent.ensures.answer, build-layers-lent.ensures.1))
+returns c =
+    let build-layers-lent = c.build_layers_lent-r in
+    record { number_after = c.tell.ensures.number_after ∙ ap reply_number build-layers-lent.ensures.answer; place_after = c.tell.ensures.place_after ∙ ap reply_place build-layers-lent.ensures.answer; state_after = build-layers-lent.ensures.state; steps_after = build-layers-lent.ensures.steps; ends_after = build-layers-lent.ensures.ends }

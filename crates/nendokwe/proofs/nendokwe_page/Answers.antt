@@ -4,4 +4,6 @@ use Rattle.definitions.specs.Reply.Outcome.{reply_number, reply_place}
 use Rattle.nendokwe.proofs.nendokwe_page.Goals as goal
 
 pub returns : goal.returns
-returns c = let page-lent = c.page_lent-r in (c.tell.ensures.number_after ∙ ap reply_number page-lent.ensures.answer, (c.tell.ensures.place_after ∙ ap reply_place page-lent.ensures.answer, page-lent.ensures.1))
+returns c =
+    let page-lent = c.page_lent-r in
+    record { number_after = c.tell.ensures.number_after ∙ ap reply_number page-lent.ensures.answer; place_after = c.tell.ensures.place_after ∙ ap reply_place page-lent.ensures.answer; state_after = page-lent.ensures.state; out_after = page-lent.ensures.page }

@@ -4,4 +4,6 @@ use Rattle.definitions.specs.Reply.Outcome.{reply_number, reply_place}
 use Rattle.nendokwe.proofs.nendokwe_picks.Goals as goal
 
 pub returns : goal.returns
-returns c = let picks-lent = c.picks_lent-r in (c.tell.ensures.number_after ∙ ap reply_number picks-lent.ensures.answer, (c.tell.ensures.place_after ∙ ap reply_place picks-lent.ensures.answer, picks-lent.ensures.1))
+returns c =
+    let picks-lent = c.picks_lent-r in
+    record { number_after = c.tell.ensures.number_after ∙ ap reply_number picks-lent.ensures.answer; place_after = c.tell.ensures.place_after ∙ ap reply_place picks-lent.ensures.answer; picks_after = picks-lent.ensures.picks; state_after = picks-lent.ensures.state }

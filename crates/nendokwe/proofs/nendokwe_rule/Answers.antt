@@ -7,4 +7,6 @@ pub overflow_sub-length : goal.overflow_sub-length
 overflow_sub-length c = (part_in _ _ c.question-q.ensures).0
 
 pub returns : goal.returns
-returns c = rule_told _ _ c.question-q.ensures
+returns c =
+    let told = rule_told _ _ c.question-q.ensures in
+    record { start_after = told.0; length_after = told.1 }

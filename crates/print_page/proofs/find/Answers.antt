@@ -1,6 +1,5 @@
 use native.Mathlib.Omega.{arith}
 use mathlib.Core.Path.{refl}
-use Prim.Native.Nat.{◌-◌}
 use Rattle.print_page.specs.Bodies.{before_none, before_next, finds_here, finds_none}
 use Rattle.print_page.proofs.find.Goals as goal
 

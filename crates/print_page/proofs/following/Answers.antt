@@ -1,7 +1,6 @@
 use native.Mathlib.Omega.{arith}
 use borrow.Author.Rules.{rules}
 use mathlib.Core.Path.{refl}
-use Prim.Native.Nat.{◌-◌}
 use Rattle.print_bytes.specs.Emitted.{begin, recut, next as then, finished}
 use Rattle.print_page.specs.Bodies.{bytes_next, bytes_end, covers_early, covers_all}
 use Rattle.print_page.proofs.following.Goals as goal

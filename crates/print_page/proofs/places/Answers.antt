@@ -1,7 +1,6 @@
 use native.Mathlib.Omega.{arith}
 use native.Mathlib.Nat.{mod-lt}
 use mathlib.Core.Path.{refl}
-use Prim.Native.Nat.{◌-◌}
 use lib.ListN.{length-set}
 use Rattle.rows.specs.Laws.{within_set}
 use Rattle.print_page.specs.Elements.{rest_first, rest_next, places_first, places_next, places_all}

@@ -1,4 +1,3 @@
-use Prim.Native.Nat.{◌-◌}
 use mathlib.Core.Path.{refl, ◌∙◌}
 use native.Mathlib.Omega.{arith}
 use Rattle.step_build.specs.MarkLaws.{every_few, marks_start, marks_in, marks_out, marks_end}

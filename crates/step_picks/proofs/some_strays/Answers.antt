@@ -1,10 +1,10 @@
-use Prim.Native.Nat.{ℕ, ◌-◌, ◌*◌, ◌≤◌}
+use Prim.Native.Nat.{ℕ, ◌*◌, ◌≤◌}
 use mathlib.Core.Path.{sym, ◌∙◌}
 use mathlib.Core.Bool.{true, false}
 use native.Mathlib.Omega.{arith}
 use native.Mathlib.Nat.{mul-le-mul}
 use Rattle.laws.specs.Lists.{any_yes, any_no, any_end}
-use Rattle.step_picks.specs.TestLaws.{row_strays, strays_start, row_strays_lem}
+use Rattle.step_picks.specs.TestLaws.{strays_start, row_strays_lem}
 use Rattle.step_picks.proofs.some_strays.Goals as goal
 
 row_few : (x n : ℕ) → x ≤ 64 → n ≤ 64 → x * n ≤ 64 * 64

@@ -1,4 +1,4 @@
-use Prim.Native.Nat.{ℕ, ◌-◌}
+use Prim.Native.Nat.{ℕ}
 use Rattle.bits.specs.Table.{bit}
 use Rattle.meaning.specs.Deciding.{Knows}
 use Rattle.meaning.specs.Planning.{rows_to}

@@ -1,5 +1,5 @@
 -- `step_truth::fill_nodes` meets its contract.
-use Prim.Native.Nat.{◌-◌, ◌^◌, ◌≤◌}
+use Prim.Native.Nat.{◌^◌, ◌≤◌}
 use Rattle.bits.specs.Table.{bit}
 use Rattle.definitions.specs.Problem.Atoms.{Problem, node_start}
 use Rattle.definitions.specs.Sheet.Relations.{Tuple}

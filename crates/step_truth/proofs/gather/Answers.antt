@@ -1,4 +1,3 @@
-use Prim.Native.Nat.{◌-◌}
 use Rattle.step_truth.specs.WordLaws.{gather_none, gather_next, gather_all, far}
 use native.Mathlib.Omega.{arith}
 use Rattle.step_truth.proofs.gather.Goals as goal

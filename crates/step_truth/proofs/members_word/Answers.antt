@@ -1,4 +1,3 @@
-use Prim.Native.Nat.{◌-◌}
 use Rattle.step_truth.specs.WordLaws.{some_none, some_next, some_all, members_any}
 use mathlib.Core.Path.{◌∙◌}
 use native.Mathlib.Omega.{arith}

@@ -1,4 +1,3 @@
-use Prim.Native.Nat.{◌-◌}
 use Rattle.bits.specs.Table.{bit, turned}
 use Rattle.step_truth.specs.WordLaws.{some_none, some_next, some_all}
 use mathlib.Core.Path.{sym, ap, ◌∙◌}
