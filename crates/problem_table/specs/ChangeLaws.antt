@@ -16,8 +16,10 @@ use Rattle.problem_table.specs.Lines.{size_in, nodes_in, relation_line, last_lin
 use Rattle.problem_table.specs.declared.RelationLine.{RelationLine}
 use Rattle.problem_table.specs.declared.NodeLine.{NodeLine}
 use Rattle.problem_table.specs.declared.TupleAct.{TupleAct}
+use Rattle.problem_table.specs.declared.RowAct.{RowAct}
+use Rattle.problem_table.specs.declared.ChoiceAct.{ChoiceAct}
 use Rattle.problem_table.specs.declared.Act.{Act}
-use Rattle.problem_table.specs.declared.Act.TheVariants.{Set, Begin, RoundEnd, MarkIn, MarkOut, Nothing}
+use Rattle.problem_table.specs.declared.Act.TheVariants.{Set, Begin, And, Or, Exists, Forall, Goal, RoundEnd, MarkIn, MarkOut, Nothing}
 
 pub put_clear : (s : ℕ → Bool) (i : ℕ) → put s i false ≡ changed s (i ∷ []) []
 unfolding put changed any
@@ -187,6 +189,30 @@ module _ (s z : ℕ → Bool) (len : ℕ) (t : List ℕ) (a : Act) where
   unfolding add_numbers remove_numbers
   take_set x k e l q = rw (e, ← l) (λ h. q h.0)
 
+  pub take_and : (x : RowAct) (v : NodeLine) → a ≡ And x → v ≡ node_line t x.node
+      → ((v.atoms + x.row) / 64 < len → z ≡ changed s [] ((v.atoms + x.row) ∷ [])) → Held (add_numbers t a) len → z ≡ changed s (remove_numbers t a) (add_numbers t a)
+  unfolding add_numbers remove_numbers
+  take_and x v e l q = rw (e, ← l) (λ h. q h.0)
+
+  pub take_or : (x : ChoiceAct) (v : NodeLine) → a ≡ Or x → v ≡ node_line t x.node
+      → ((v.atoms + x.row) / 64 < len → z ≡ changed s [] ((v.atoms + x.row) ∷ [])) → Held (add_numbers t a) len → z ≡ changed s (remove_numbers t a) (add_numbers t a)
+  unfolding add_numbers remove_numbers
+  take_or x v e l q = rw (e, ← l) (λ h. q h.0)
+
+  pub take_exists : (x : ChoiceAct) (v : NodeLine) → a ≡ Exists x → v ≡ node_line t x.node
+      → ((v.atoms + x.row) / 64 < len → z ≡ changed s [] ((v.atoms + x.row) ∷ [])) → Held (add_numbers t a) len → z ≡ changed s (remove_numbers t a) (add_numbers t a)
+  unfolding add_numbers remove_numbers
+  take_exists x v e l q = rw (e, ← l) (λ h. q h.0)
+
+  pub take_forall : (x : ChoiceAct) (v : NodeLine) → a ≡ Forall x → v ≡ node_line t x.node
+      → ((v.atoms + (x.row * size_in t + x.choice)) / 64 < len → z ≡ changed s [] ((v.atoms + (x.row * size_in t + x.choice)) ∷ [])) → Held (add_numbers t a) len → z ≡ changed s (remove_numbers t a) (add_numbers t a)
+  unfolding add_numbers remove_numbers
+  take_forall x v e l q = rw (e, ← l) (λ h. q h.0)
+
+  pub take_goal : a ≡ Goal → (2 / 64 < len → z ≡ changed s [] (2 ∷ [])) → Held (add_numbers t a) len → z ≡ changed s (remove_numbers t a) (add_numbers t a)
+  unfolding add_numbers remove_numbers
+  take_goal e q = rw e (λ h. q h.0)
+
   -- an atom comes and none goes
   pub take_one : (b : Act) (i : ℕ) → a ≡ b → remove_numbers t b ≡ [] → add_numbers t b ≡ i ∷ [] → (i / 64 < len → z ≡ changed s [] (i ∷ [])) → Held (add_numbers t a) len → z ≡ changed s (remove_numbers t a) (add_numbers t a)
   take_one b i e g h q = rw (e, g, h) (λ k. q k.0)
@@ -204,10 +230,16 @@ module _ (s z : ℕ → Bool) (len : ℕ) (t : List ℕ) (a : Act) where
   unfolding add_numbers remove_numbers
   take_in x k e l q = rw (e, ← l) q
 
-  pub take_out : (x : TupleAct) (k : RelationLine) → a ≡ MarkOut x → k ≡ relation_line t x.relation
+  pub take_out : (x : TupleAct) (k : RelationLine) (next : ℕ) → a ≡ MarkOut x → k ≡ relation_line t x.relation → next ≡ next_mark k x.row
+      → (Held ((k.nots + x.row) ∷ next ∷ []) len → z ≡ changed s ((k.free + x.row) ∷ (k.tuples + x.row) ∷ []) ((k.nots + x.row) ∷ next ∷ [])) → Held (add_numbers t a) len → z ≡ changed s (remove_numbers t a) (add_numbers t a)
+  unfolding add_numbers remove_numbers
+  take_out x k next e l n q = rw (e, ← l, ← n) q
+
+  -- ... where the mark that comes is the next one
+  pub take_out_next : (x : TupleAct) (k : RelationLine) → a ≡ MarkOut x → k ≡ relation_line t x.relation
       → (Held ((k.nots + x.row) ∷ next_mark k x.row ∷ []) len → z ≡ changed s ((k.free + x.row) ∷ (k.tuples + x.row) ∷ []) ((k.nots + x.row) ∷ next_mark k x.row ∷ [])) → Held (add_numbers t a) len → z ≡ changed s (remove_numbers t a) (add_numbers t a)
   unfolding add_numbers remove_numbers
-  take_out x k e l q = rw (e, ← l) q
+  take_out_next x k e l q = rw (e, ← l) q
 
 pub take_nothing : (s : ℕ → Bool) (len : ℕ) (t : List ℕ) (a : Act) → a ≡ Nothing → Held (add_numbers t a) len → s ≡ changed s (remove_numbers t a) (add_numbers t a)
 unfolding add_numbers remove_numbers

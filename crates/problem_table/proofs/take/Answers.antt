@@ -4,7 +4,7 @@ use native.Mathlib.Omega.{arith}
 use Rattle.rows.specs.Laws.{times_most}
 use Rattle.problem_table.specs.Numbers.{add_numbers, remove_numbers}
 use Rattle.problem_table.specs.NeedLaws.{fits_of, relation_small}
-use Rattle.problem_table.specs.ChangeLaws.{take_set, take_one, take_begin, take_round, take_in, take_out, take_nothing}
+use Rattle.problem_table.specs.ChangeLaws.{take_set, take_one, take_begin, take_round, take_in, take_out_next, take_nothing}
 use borrow.Author.Rules.{rules}
 use Rattle.problem_table.proofs.take.Goals as goal
 
@@ -122,7 +122,7 @@ returns-in-MarkIn c =
 
 pub returns-in-MarkOut : goal.returns-in-MarkOut
 returns-in-MarkOut c =
-    take_out _ _ _ _ _ _ _ c.in-MarkOut.is c.relation_line-in-MarkOut.ensures
+    take_out_next _ _ _ _ _ _ _ c.in-MarkOut.is c.relation_line-in-MarkOut.ensures
     c.mark_out.ensures
 
 pub returns-in-Nothing : goal.returns-in-Nothing

@@ -1,8 +1,5 @@
 -- `test_calls::run_inputs` runs safely.
 use Rattle.test_calls.proofs.run_inputs.Given as goal
 
-abbrev pub invariant-loop-left : goal.invariant-loop-left
-invariant-loop-left l = Unit {0}
-
 abbrev pub decreases-loop-left : goal.decreases-loop-left
 decreases-loop-left l = l.left
