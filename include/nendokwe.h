@@ -1,4 +1,4 @@
-/* The calls of libnendokwe.a (`rt staticlib nendokwe`), for C on x86-64.
+/* The calls of libnendokwe.a (`rt lib` in crates/nendokwe), for C on x86-64.
  *
  * A text or a buffer goes over as a pointer and a length: bytes for texts, 64-bit words for picks and states, 32-bit entries for steps.
  * What is only read is const. Buffers must not overlap each other, nor `number`, `place` or any other result; with a length of 0 any

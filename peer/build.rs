@@ -8,7 +8,7 @@ fn main() {
         return;
     }
     let own = env::var("CARGO_MANIFEST_DIR").unwrap_or_default();
-    let directory = env::var("NENDOKWE_LIB").unwrap_or(format!("{own}/../target/staticlib"));
+    let directory = env::var("NENDOKWE_LIB").unwrap_or(format!("{own}/../crates/nendokwe/out"));
     println!("cargo:rerun-if-changed={directory}/libnendokwe.a");
     println!("cargo:rustc-link-search=native={directory}");
     println!("cargo:rustc-link-lib=static=nendokwe");

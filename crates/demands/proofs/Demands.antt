@@ -10,13 +10,11 @@ use Rattle.std.proofs.Math.Bool.{Bool, true, false}
 use mathlib.Core.List.{List, Memᴰ}
 use Rattle.std.proofs.Math.ListN.{length}
 use Rattle.definitions.specs.Limits.{CaseLimits, step_limit, text_limit}
-use Rattle.definitions.specs.Sheet.Text.{number}
-use Rattle.definitions.specs.Reply.Desk.{answer}
 use Rattle.definitions.specs.Refusal.{accepted}
 use Rattle.definitions.specs.Sheet.Relations.{Tuple}
 use Rattle.definitions.specs.Sheet.Sheets.{Question, Label, Labelled, read_question, read_site}
 use Rattle.definitions.specs.Problem.Truth.{Case, are_of_kinds, rule_is_true}
-use Rattle.definitions.specs.Problem.Atoms.{Problem, atoms}
+use Rattle.definitions.specs.Problem.Atoms.{Problem}
 use Rattle.definitions.specs.Problem.Built.{bound, bound_exponents}
 use Rattle.definitions.specs.Reply.Outcome.{read_filed, read_problem}
 use Rattle.definitions.specs.Reply.Outcome.{state_length, ThirdInput}

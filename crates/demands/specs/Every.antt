@@ -10,10 +10,10 @@ use native.Mathlib.Omega.{arith}
 use Rattle.std.proofs.Math.Nat.{pow-succ'}
 use Rattle.std.proofs.Math.Dec.{T, T_not}
 use Rattle.definitions.specs.Limits.{CaseLimits}
-use Rattle.definitions.specs.Lists.{if◌then◌else◌, option, is_some, all, any, from, below}
+use Rattle.definitions.specs.Lists.{option, is_some, all, any, from, below}
 use Rattle.definitions.specs.Refusal.{accepted, ◌>>=◌, refuse_if}
 use Rattle.definitions.specs.Sheet.Relations.{Relation, Tuple, same_tuple, is_among, is_universal, built_in}
-use Rattle.definitions.specs.Sheet.Sheets.{relations, relations_of, every_number}
+use Rattle.definitions.specs.Sheet.Sheets.{relations_of, every_number}
 use Rattle.definitions.specs.Problem.Truth.{Case, every_tuples, values, digit, every_value, rule_holds, rule_is_true}
 use Rattle.definitions.specs.Problem.Atoms.{Problem, problem_of, problem_with, relation_at, places_of, row_of, tuples_of, tuple, not_tuple, marked, atom_number, relation_start, node_start, last_start, last_tuples, atoms}
 use Rattle.definitions.specs.Problem.Actions.{Action, begin_proof, prove_goal, round_end, mark_in, mark_out, action_at, actions, proof_start, marks_before, root_atom}
@@ -25,7 +25,7 @@ use Rattle.laws.specs.Results.{accepted_eq, bind_parts, not_refused}
 use Rattle.laws.specs.Lists.{all_at, all_of, mem_below}
 use Rattle.laws.specs.Tuples.{among_mem, mem_among}
 use Rattle.laws.specs.Rows.{length_places, places_below, places_row, row_lt}
-use Rattle.laws.specs.Numbers.{IsAtom, IsAction, last_width, action_is, early_start, last_first, last_next, atoms_end, mark_first, mark_next, actions_end, finish_goal}
+use Rattle.laws.specs.Numbers.{IsAtom, IsAction, last_width, action_is, early_start, last_first, last_next, atoms_end, mark_first, mark_next, actions_end}
 use Rattle.laws.specs.Digits.{digit_first, digit_next, is_odd_lem, is_even}
 use Rattle.meaning.specs.Values.{one_value, value_mem, mem_value, with_zero}
 use Rattle.laws.specs.Reader.{Accepted, relations_none}

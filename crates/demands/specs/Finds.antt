@@ -1,6 +1,6 @@
 -- Finding picks: every set of picks has a number, so that the least number that meets the rule is found exactly if some picks meet it;
 -- and what the call then answers and leaves.
-use Rattle.std.specs.Prelude.{ℕ, zero, ◌^◌, ◌<◌, ◌≤◌, ◌≡◌, ◌↔◌, Bool, true, ◌&&◌, T}
+use Rattle.std.specs.Prelude.{ℕ, zero, ◌^◌, ◌<◌, ◌≤◌, ◌≡◌, ◌↔◌, Bool, true, T}
 use Rattle.std.proofs.Math.Path.{refl, ap, subst}
 use Rattle.std.proofs.Common.{sym, ◌∙◌, ⊎_elim, ltb-true, ltb-false}
 use Rattle.std.proofs.Math.Bool.{false}

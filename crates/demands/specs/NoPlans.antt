@@ -1,6 +1,6 @@
 -- A plan's text whose lines have the form, but one of which is no step (22), is no plan of the written domain and instance either.
 use Prim.Native.Nat.{ℕ, suc, ◌+◌, ◌-◌, ◌*◌, ◌<◌, ◌≤◌}
-use Rattle.std.specs.Prelude.{◌≡◌, ◌⊎◌, ◌&&◌, drop}
+use Rattle.std.specs.Prelude.{◌≡◌, ◌&&◌, drop}
 use Rattle.std.proofs.Math.Path.{refl, sym, ap}
 use Rattle.std.proofs.Common.{ap₂, subst, ◌∙◌, eq-eqb, eqb-true}
 use Rattle.std.proofs.Math.Logic.{⊎_elim}

@@ -22,7 +22,6 @@ use Rattle.definitions.specs.Reply.Page.{spaces, left, right, kind_word, subject
 use Rattle.laws.specs.Results.{accepted_eq, bind_parts, refused_accepted, refused_number}
 use Rattle.laws.specs.Words.{state_length_lem}
 use Rattle.laws.specs.Refusals.{In, run_refuses}
-use Rattle.laws.specs.Asked
 use Rattle.laws.specs.Reader.{Accepted}
 use Rattle.laws.specs.Numbers.{IsAction, action_is}
 use Rattle.meaning.specs.Grounded.{good, every_at}

@@ -1,6 +1,6 @@
 -- The bound as a polynomial in the number of elements: its terms are fixed by the question alone, and no exponent is above 4.
-use Rattle.std.specs.Prelude.{ℕ, zero, suc, ◌+◌, ◌*◌, ◌^◌, ◌<◌, ◌≤◌, ◌≡◌, refl, Bool, true, false, eqb, length, get_or}
-use Rattle.std.proofs.Common.{sym, ap, ap₂, subst, ◌∙◌, ⊎_elim, arith, pow-suc, one-mul, eq-eqb}
+use Rattle.std.specs.Prelude.{ℕ, zero, suc, ◌+◌, ◌*◌, ◌^◌, ◌<◌, ◌≤◌, ◌≡◌, refl, Bool, true, false, eqb, length}
+use Rattle.std.proofs.Common.{ap, ap₂, ◌∙◌, arith, pow-suc, one-mul, eq-eqb}
 use Rattle.std.proofs.Math.Option.{Option, none}
 use mathlib.Core.List.Memᴰ
 use mathlib.Core.List.{List, [], ◌∷◌, ◌++◌, map, Memᴰ}
@@ -10,16 +10,12 @@ use Rattle.definitions.specs.Sheet.Relations.{Relation, is_chosen, is_function}
 use Rattle.definitions.specs.Sheet.Sheets.{relations_of}
 use Rattle.definitions.specs.Problem.Truth.{Case, every_tuples, values}
 use Rattle.definitions.specs.Problem.Tree.{Tree, leaf, forall_node, exists_node, and_node, or_node, tree_of, nodes, occurs, free, is_forall}
-use Rattle.definitions.specs.Problem.Atoms.{problem_of, problem_with, node_at, tuples_of, rows_of, node_width, count_of, holds_node, nodes_blocks, node_atoms}
+use Rattle.definitions.specs.Problem.Atoms.{problem_of, problem_with, tuples_of, rows_of, node_width, count_of, holds_node, nodes_blocks, node_atoms}
 use Rattle.definitions.specs.Problem.Built.{most_picks, bound, pick_exponent, node_exponent, bound_exponents, polynomial, bound_polynomial}
 use Rattle.meaning.specs.Shown.{four_free}
-use Rattle.laws.specs.Lists.{flat_mem, length_below, map_mem, mem_below, mem_get_or}
+use Rattle.laws.specs.Lists.{length_below, mem_below}
 use Rattle.laws.specs.Repeats.{filter_lt}
-use Rattle.laws.specs.Numbers.{no_node}
-use Rattle.laws.specs.Reader.{Accepted}
 use Rattle.meaning.specs.Parts.{Within}
-use Rattle.meaning.specs.Means.{here_at}
-use Rattle.meaning.specs.Grounded.{good, relation_cases}
 
 value_append : (ks ls : List ℕ) (n : ℕ) → polynomial (ks ++ ls) n ≡ polynomial ks n + polynomial ls n
 unfolding polynomial sum

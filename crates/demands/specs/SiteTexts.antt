@@ -1,38 +1,36 @@
 -- Which texts are read as a site: those that line by line spell its size, its labels, its members and its facts, in this order.
 use Prim.Native.Nat.{ℕ, zero, suc, ◌+◌, ◌-◌, ◌<◌, ◌≤◌}
-use Rattle.std.specs.Prelude.{◌≡◌, ◌⊎◌, ◌↔◌, Bool, ◌&&◌, ◌||◌, T, eqb, leb, ltb}
+use Rattle.std.specs.Prelude.{◌≡◌, Bool, ◌&&◌, ◌||◌, T, eqb, leb, ltb}
 use Rattle.std.proofs.Math.Path.{refl, sym, ap, subst, subst₂}
-use Rattle.std.proofs.Common.{ap₂, ◌∙◌, inl, inr, ⊎_elim, arith, T_not, lt→ltb, eqb→eq}
+use Rattle.std.proofs.Common.{ap₂, ◌∙◌, inl, inr, ⊎_elim, arith, T_not, eqb→eq}
 use Rattle.std.proofs.Math.Bool.{true, false, not}
 use Rattle.std.proofs.Math.Option.{Option, none, some}
 use mathlib.Core.List.{List, [], ◌∷◌, ◌++◌, map, append_assoc, append-nil, Memᴰ}
 use Rattle.std.proofs.Math.Dec.{leb→le, eqb_refl}
-use Rattle.std.proofs.Math.ListN.{length, length-append, get_or}
-use borrow.Author.Tests.{not-false, ltb-false, le-leb}
+use Rattle.std.proofs.Math.ListN.{length, get_or}
+use borrow.Author.Tests.{not-false, ltb-false}
 use Rattle.definitions.specs.Limits.{CaseLimits, text_limit}
 use Rattle.definitions.specs.Lists.{if◌then◌else◌, all, any, same, is_empty, option, position, below}
-use Rattle.definitions.specs.Sheet.Text.{bytes, decimal, number, split, Line, lines, lines_from, is_between, is_relation_name}
-use Rattle.definitions.specs.Refusal.{Result, accepted, ◌>>=◌, refuse_if, given, read_lines, read_text}
-use Rattle.definitions.specs.Sheet.Relations.{Relation, Tuple, is_among}
+use Rattle.definitions.specs.Sheet.Text.{bytes, decimal, number, split, lines, is_between, is_relation_name}
+use Rattle.definitions.specs.Refusal.{accepted, ◌>>=◌, refuse_if, given, read_text}
+use Rattle.definitions.specs.Sheet.Relations.{Relation, Tuple}
 use Rattle.definitions.specs.Sheet.Formula.{type_number}
 use Rattle.definitions.specs.Sheet.Sheets.{Element, numbered, named, Entry, rel, type, choose, every, rule, size, label, member, fact, pick, step, element, elements, label_of, with_two, entry, entry_of, first_rel, used}
 use Rattle.definitions.specs.Sheet.Sheets.{Label, name_of, element_of, is_in_range, add_tuple, Member, is_member, has_member, SiteDraft, Labelled, add_size, is_taken, add_label, add_member, add_fact, add_to_site, site_line, read_site}
 use Rattle.laws.specs.Booleans.{T_and_l, T_and_r, T_of, T_or, T_true, T_false, and_T, or_both}
-use Rattle.laws.specs.Lists.{all_of, any_at, any_of, below_lt, get_or_mem, none_some, some_eq}
+use Rattle.laws.specs.Lists.{any_at, any_of, get_or_mem, none_some, some_eq}
 use Rattle.laws.specs.Results.{accepted_eq, bind_parts, given_some, not_refused, refused_accepted}
-use Rattle.laws.specs.Tuples.{among_mem, same_eq, same_refl}
-use Rattle.laws.specs.Repeats.{Once, once_append, once_middle, distinct_once}
+use Rattle.laws.specs.Tuples.{same_eq, same_refl}
+use Rattle.laws.specs.Repeats.{Once, once_append, once_middle}
 use Rattle.laws.specs.Positions.{position_at}
 use Rattle.laws.specs.Numbers.{no_relation}
 use Rattle.laws.specs.Decimals.{decimal_number, number_decimal}
-use Rattle.laws.specs.Labels.{LabelsFit, OneToOne, label_named, taken_by}
-use Rattle.laws.specs.Spelling.{Spells, spells_of, Spelled, spelled_of, element_number, spells_read, spelled_read, spelled_without, spelled_length}
+use Rattle.laws.specs.Labels.{OneToOne, label_named, taken_by}
+use Rattle.laws.specs.Spelling.{Spells, spells_of, Spelled, spelled_of, element_number}
 use Rattle.laws.specs.Reader.{Holds, Arity, Apart, TypesFit, position_holds, DraftSite, SizedFits, SiteSoFar, LabelledFits, site_step, site_fits, gives_if}
-use Rattle.laws.specs.Lines.{Without, AllWithout, name_without, joined, read_end, LineByLine}
+use Rattle.laws.specs.Lines.{LineByLine}
 use Rattle.laws.specs.Told.{TupleLine, tuple_told, open_told, split_back}
-use Rattle.demands.specs.InNumbers.{size_entry, member_entry, fact_entry}
-use Rattle.demands.specs.Written.{decimal_without, entry_joined, used_at, tuple_added, within}
-use Rattle.demands.specs.LineTexts.{ended, open_ended, Said, line_said, lines_told, run_read, or_false}
+use Rattle.demands.specs.LineTexts.{ended, open_ended, Said, line_said, lines_told, or_false}
 
 -- ---- what the lines of a site say, one thing a line
 pub data SiteItem : Type 0 where

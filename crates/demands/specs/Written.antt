@@ -13,7 +13,7 @@ use Rattle.definitions.specs.Lists.{all, any, same, option, listed, flat_map}
 use Rattle.definitions.specs.Sheet.Text.{bytes, decimal, decimal_in, is_relation_name, Line, lines, lines_from, split, fields, is_between}
 use Rattle.definitions.specs.Refusal.{Result, accepted, ◌>>=◌, refuse_if, given, read_lines, read_text}
 use Rattle.definitions.specs.Sheet.Relations.{Relation, Tuple, is_among, is_declared, built_in}
-use Rattle.definitions.specs.Sheet.Sheets.{Element, Entry, size, pick, step, elements, with_one, with_elements, entry, entry_of, Label, elements_of, is_in_range, used, add_tuple, add_to_picks, picks_line, read_picks, add_to_steps, steps_line, read_steps, first_chosen, relations, relations_of}
+use Rattle.definitions.specs.Sheet.Sheets.{Element, Entry, pick, step, elements, with_one, with_elements, entry, entry_of, Label, elements_of, is_in_range, used, add_tuple, add_to_picks, picks_line, read_picks, add_to_steps, steps_line, read_steps, first_chosen, relations, relations_of}
 use Rattle.definitions.specs.Problem.Truth.{Case, are_picks}
 use Rattle.definitions.specs.Problem.Atoms.{Problem, problem_of, relation_at, row_of}
 use Rattle.definitions.specs.Problem.Built.{chosen_numbers, picked_rows}

@@ -1,5 +1,5 @@
 -- Words of sixty-four valuations: digit j is for valuation j.
-use Rattle.std.specs.Prelude.{◌≡◌, Bool, true, false, List, ℕ, ◌^◌, ◌-◌, ◌<◌, eqb, ltb, get_or}
+use Rattle.std.specs.Prelude.{◌≡◌, Bool, true, false, List, ℕ, ◌<◌, eqb, ltb, get_or}
 use Rattle.definitions.specs.Lists.{if◌then◌else◌}
 use Rattle.definitions.specs.Problem.Actions.{Values}
 use Rattle.bits.specs.Table.{digit}

@@ -1,5 +1,5 @@
 -- Binary digits: of zero, of a number with zeros behind it, and how they change where one is added there.
-use Rattle.std.specs.Prelude.{ℕ, zero, suc, ◌+◌, ◌*◌, ◌/◌, ◌%◌, ◌^◌, ◌<◌, ◌≤◌, ◌≡◌, refl, true, false}
+use Rattle.std.specs.Prelude.{ℕ, zero, suc, ◌+◌, ◌*◌, ◌/◌, ◌%◌, ◌^◌, ◌<◌, ◌≡◌, refl, true, false}
 use Rattle.std.proofs.Common.{sym, ap, ◌∙◌, arith, zero-add, div-one, mul-one, mul_assoc, mul_left_comm, eq-eqb, eqb-true, ne_eqb}
 use Rattle.std.proofs.Math.Nat.{zero-div, pow-succ', div-div-eq-div-mul}
 use Rattle.std.proofs.lemmas.Bool.{eqb-false}

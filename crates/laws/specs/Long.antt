@@ -3,7 +3,6 @@ use Rattle.std.specs.Prelude.{ℕ, suc, ◌+◌, ◌*◌, ◌/◌, ◌%◌, ◌�
 use Rattle.std.proofs.Common.{arith, length-append}
 use Rattle.definitions.specs.Lists.{if◌then◌else◌, flat_map}
 use Rattle.definitions.specs.Sheet.Text.{bytes, decimal_in, decimal}
-use Rattle.definitions.specs.Sheet.Sheets.{step}
 use Rattle.definitions.specs.Reply.Desk.{print_line, step_line}
 
 some_digit : (k n : ℕ) → 1 ≤ length (decimal_in (suc k) n)

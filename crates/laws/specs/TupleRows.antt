@@ -1,7 +1,7 @@
 -- All tuples of elements, one after another, are the places of the rows in order: what is said of tuples one by one is said row by row.
 use Rattle.std.specs.Prelude.{ℕ, zero, suc, ◌+◌, ◌*◌, ◌%◌, ◌^◌, ◌<◌, ◌≡◌, refl}
 use Rattle.std.proofs.Common.{sym, ap, ap₂, ◌∙◌, arith, add-zero, zero-add, zero-mul, suc-mul, mod-eq_of_lt}
-use mathlib.Core.List.{List, [], ◌∷◌, ◌++◌, map, append-nil, Memᴰ}
+use mathlib.Core.List.{List, [], ◌∷◌, ◌++◌, map, append-nil}
 use Rattle.std.proofs.Math.Nat.{pow-zero, pow-succ'}
 use Rattle.std.proofs.Math.Arith.{digits_div}
 use Rattle.definitions.specs.Lists.{flat_map, from, below}

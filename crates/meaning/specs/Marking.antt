@@ -1,6 +1,6 @@
 -- Between two rounds: what the state says of tuples and nodes after a round's end and after each mark; so the next round begins as the first did,
 -- with the next value.
-use Prim.Native.Nat.{ℕ, zero, suc, ◌+◌, ◌*◌, ◌/◌, ◌^◌, ◌<◌, ◌≤◌}
+use Prim.Native.Nat.{ℕ, zero, suc, ◌+◌, ◌*◌, ◌/◌, ◌^◌, ◌<◌}
 use Rattle.std.specs.Prelude.{◌≡◌, ◌⊎◌, Bool, false, not, ◌&&◌, eqb, leb, ltb, length}
 use Rattle.std.proofs.Math.Path.{refl, sym, ap, subst}
 use Rattle.std.proofs.Common.{ap₂, subst₂, ◌∙◌, inl, inr, zero-add, eqb→eq, eq-eqb}

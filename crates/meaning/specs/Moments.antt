@@ -1,7 +1,7 @@
 -- Steps that reach the goal go through every value of the `every` relation: for each there is a moment in which the root's atom holds, and of that
 -- relation just the tuples of the value.
-use Prim.Native.Nat.{ℕ, zero, suc, ◌<◌, ◌≤◌}
-use Rattle.std.specs.Prelude.{◌≡◌, ◌⊎◌, Bool, not, ◌&&◌}
+use Prim.Native.Nat.{ℕ, zero, suc, ◌<◌}
+use Rattle.std.specs.Prelude.{◌≡◌, ◌⊎◌, Bool, not}
 use Rattle.std.proofs.Math.Path.{refl, ap, subst}
 use Rattle.std.proofs.Common.{sym, ap₂, ◌∙◌, arith, T_not, eqb→eq}
 use Rattle.std.proofs.Math.Logic.{inl, inr, ⊎_elim}
@@ -11,7 +11,7 @@ use mathlib.Core.List.Memᴰ
 use mathlib.Core.List.{List, [], ◌∷◌, ◌++◌, Memᴰ}
 use Rattle.std.proofs.Math.Dec.{T, eqb, not_T}
 use borrow.Author.Tests.{eqb-false}
-use Rattle.definitions.specs.Lists.{if◌then◌else◌, option, is_some}
+use Rattle.definitions.specs.Lists.{option, is_some}
 use Rattle.definitions.specs.Sheet.Relations.{Tuple, is_universal}
 use Rattle.definitions.specs.Problem.Truth.{holds, every_tuples, values, digit, every_value}
 use Rattle.definitions.specs.Problem.Atoms.{Problem, relation_at, places_of, Atom, guess, proof, goal, tuple, not_tuple, free_domain, free_range, holds_node, marked, atom_number, is_initial, tuple_holds, State, initial}

@@ -2,13 +2,13 @@
 -- rounds, with the mark at tuple i: no proof and no node's atom holds, the tuples before i are out, and with the value and one more at digit i the
 -- next round begins. In both, and past the last tuple, what is seen where a round ends is so of each value whose round has ended.
 use Prim.Native.Nat.{ℕ, zero, suc, ◌+◌, ◌*◌, ◌/◌, ◌^◌, ◌<◌, ◌≤◌}
-use Rattle.std.specs.Prelude.{◌≡◌, ◌⊎◌, Bool, false, not, ◌&&◌, eqb, ltb}
+use Rattle.std.specs.Prelude.{◌≡◌, Bool, false, not, eqb, ltb}
 use Rattle.std.proofs.Math.Path.{refl, sym, subst}
 use Rattle.std.proofs.Common.{ap, ap₂, subst₂, ◌∙◌, arith, mul-lt-mul_of_pos_right, T_not, eq-eqb, lt-ltb, le-ltb}
 use Rattle.std.proofs.Math.Logic.{⊎_elim}
 use Rattle.std.proofs.Math.Bool.{true}
 use mathlib.Core.List.Memᴰ
-use mathlib.Core.List.{List, [], ◌∷◌, ◌++◌, Memᴰ}
+use mathlib.Core.List.{List, [], ◌++◌, Memᴰ}
 use Rattle.std.proofs.Math.Nat.{pow-succ', one-le-pow}
 use Rattle.std.proofs.Math.Dec.{T, eqb→eq, not_T}
 use Rattle.definitions.specs.Lists.{if◌then◌else◌, all, is_some}

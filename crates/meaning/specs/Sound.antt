@@ -9,7 +9,7 @@ use mathlib.Core.List.Memᴰ
 use mathlib.Core.List.{List, [], ◌∷◌, ◌++◌, append_assoc, append-nil, Memᴰ}
 use Rattle.std.proofs.Math.Nat.{one-le-pow}
 use Rattle.std.proofs.Math.Dec.{T, T_not, not_T}
-use Rattle.definitions.specs.Lists.{if◌then◌else◌, option, is_some, flat_map}
+use Rattle.definitions.specs.Lists.{option, is_some, flat_map}
 use Rattle.definitions.specs.Sheet.Relations.{Tuple, is_among, are_distinct, is_chosen, is_function, is_injective}
 use Rattle.definitions.specs.Sheet.Sheets.{first_chosen}
 use Rattle.definitions.specs.Problem.Truth.{holds, every_tuples, values, every_value}

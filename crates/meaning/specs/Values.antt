@@ -1,6 +1,6 @@
 -- The values of the `every` relation: how many, which tuples each has, and what holds with each beside picks.
 use Prim.Native.Nat.{ℕ, zero, ◌^◌, ◌<◌, ◌≤◌}
-use Rattle.std.specs.Prelude.{◌≡◌, ◌⊎◌, Bool, true, false, not, length}
+use Rattle.std.specs.Prelude.{◌≡◌, Bool, true, false, not, length}
 use Rattle.std.proofs.Math.Path.{refl, sym, ap, ap₂}
 use Rattle.std.proofs.Common.{subst, ◌∙◌, ⊎_elim, T_not}
 use Rattle.std.proofs.Math.Option.{Option, none, some}

@@ -2,6 +2,7 @@
 // it fitted or not, and leaves every byte before and after that as it was; so a writer that is given an empty table measures. Places past the
 // table's end count on, up to the largest number, so nothing is asked of the caller.
 #![tactic(auto)]
+
 ghost use Rattle.std.specs.Prelude.{◌≡◌, [], ◌∷◌, ◌-◌, length};
 ghost use Rattle.definitions.specs.Sheet.Text.{decimal as «decimal_of»};
 ghost use Rattle.definitions.specs.Reply.Page.{spaces as «spaces_of», left as «left_of», right as «right_of»};

@@ -1,6 +1,7 @@
 // Printing into a lent table of bytes from a place on. Each function hands back the place after what it printed, and leaves every
 // byte before and after that as it was.
 #![tactic(auto)]
+
 ghost use Rattle.std.specs.Prelude.{◌≡◌, [], ◌∷◌, map, ◌+◌, ◌*◌, ◌≤◌, ◌<◌, ◌^◌, length, take, get_or};
 ghost use Rattle.definitions.specs.Lists.{flat_map};
 ghost use Rattle.definitions.specs.Sheet.Text.{bytes, decimal as «decimal_of»};

@@ -15,7 +15,7 @@ use Rattle.definitions.specs.Problem.Built.{chosen_numbers, is_picked, picked_ro
 use Rattle.definitions.specs.Sheet.Sheets.{Label}
 use Rattle.definitions.specs.Reply.Desk.{print_line, count_line, said, pick_line}
 use Rattle.laws.specs.Lists.{below_snoc}
-use Rattle.bits.specs.Table.{bit, num, count, words}
+use Rattle.bits.specs.Table.{bit, num, count}
 use Rattle.read_names.specs.declared.Signature.{Signature}
 use Rattle.read_names.specs.Signatures.{relation_in, relations_from, all_of}
 use Rattle.read_names.proofs.Laws.{all_are, relation_at_lem}

@@ -8,7 +8,6 @@ use native.Mathlib.Omega.{arith}
 use Rattle.std.proofs.Math.ListN.{length, length-append}
 use Rattle.definitions.specs.Lists.{flat_map, from}
 use Rattle.definitions.specs.Sheet.Relations.{Tuple}
-use Rattle.definitions.specs.Sheet.Sheets.{relations}
 use Rattle.definitions.specs.Problem.Atoms.{Problem, relation_at, tuples_of, words_for}
 use Rattle.definitions.specs.Problem.Built.{chosen_numbers, is_picked}
 use Rattle.definitions.specs.Reply.Outcome.{relation_words, pick_words}

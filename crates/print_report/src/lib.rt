@@ -1,5 +1,6 @@
 // Parts of the desk program's reply (document 01, "The desk program"): the cut of its input, and the report up to its steps.
 #![tactic(auto)]
+
 ghost use Rattle.std.specs.Prelude.{◌≡◌, ◌+◌, ◌*◌, ◌^◌, ◌≤◌, ◌<◌, min, length};
 ghost use Rattle.std.proofs.Math.Seq.{slice};
 ghost use Rattle.definitions.specs.Sheet.Text.{lines, split};

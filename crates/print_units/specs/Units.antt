@@ -6,7 +6,6 @@ use Rattle.std.proofs.Common.{◌∙◌, add-one, arith, length-drop, drop_of_le
 use mathlib.Core.List.{List, [], ◌∷◌, ◌++◌}
 use Rattle.std.proofs.Math.ListN.{get_or, take, drop}
 use Rattle.std.proofs.Math.Seq.{drop-cons}
-use Rattle.definitions.specs.Lists.{if◌then◌else◌}
 use Rattle.definitions.specs.Sheet.Text.{decimal}
 use Rattle.definitions.specs.Sheet.Sheets.{Label}
 use Rattle.definitions.specs.Reply.Desk.{said}

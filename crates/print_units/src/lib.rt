@@ -1,5 +1,6 @@
 // The elements of a step on its lines (document 02, job 9): units that are never cut, side by side while they fit.
 #![tactic(auto)]
+
 ghost use Rattle.std.specs.Prelude.{◌≡◌, List, ◌++◌, ℕ, ◌+◌, ◌-◌, ◌≤◌, ◌<◌, length, take, get_or};
 ghost use Rattle.print_line.specs.Lines.{said_by};
 ghost use Rattle.print_bytes.specs.Emitted.{Emits};

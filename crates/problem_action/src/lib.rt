@@ -1,5 +1,6 @@
 // The action of a number.
 #![tactic(auto)]
+
 ghost use Rattle.std.specs.Prelude.{◌≡◌, ◌+◌, ◌<◌, ◌≤◌, length};
 ghost use Rattle.definitions.specs.Problem.Atoms.{Problem};
 ghost use Rattle.definitions.specs.Problem.Actions.{action_at};

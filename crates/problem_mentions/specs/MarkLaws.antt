@@ -1,9 +1,9 @@
 -- One turn of the loops over parts and nodes, and that marks and atoms are those of the problem.
 use Rattle.std.specs.Prelude.{◌≡◌, Bool, eqb, ltb, set, take, replicate}
 use Rattle.std.proofs.Math.Path.{refl, sym, ap, ap₂}
-use Rattle.std.proofs.Common.{subst, ◌∙◌, ⊎_elim, zero-add, add-one, length-drop, get_or-set_same, get_or-set_other, get_or-drop, take-suc, lt-ltb, le-ltb}
+use Rattle.std.proofs.Common.{subst, ◌∙◌, zero-add, add-one, length-drop, get_or-set_same, get_or-set_other, get_or-drop, take-suc, lt-ltb, le-ltb}
 use Rattle.std.proofs.Math.Bool.{true, false, ◌||◌, or-false, or_assoc}
-use mathlib.Core.List.{List, [], ◌∷◌, ◌++◌, map, Memᴰ}
+use mathlib.Core.List.{List, [], ◌∷◌, ◌++◌, map}
 use Prim.Native.Nat.{ℕ, zero, suc, ◌+◌, ◌-◌, ◌*◌, ◌^◌, ◌<◌, ◌≤◌}
 use Rattle.std.proofs.Math.Decide.{ℕ_discrete}
 use native.Mathlib.Omega.{arith}

@@ -1,6 +1,7 @@
 // The grounded problem by number: a table of numbers, lent as a slice, from which come the numbers of the atoms that an action needs,
 // adds and removes. Nothing is listed, and an action costs its own parts.
 #![tactic(auto)]
+
 ghost use Rattle.std.specs.Prelude.{◌≡◌, false, [], ◌∷◌, map, suc, ◌+◌, ◌-◌, ◌*◌, ◌/◌, ◌^◌, ◌<◌, ◌≤◌, min, ltb, length, take as «take_of»};
 ghost use Rattle.definitions.specs.Lists.{if◌then◌else◌, all, option, from, below, before};
 ghost use Rattle.definitions.specs.Reply.Outcome.{written};

@@ -1,10 +1,10 @@
 -- One turn of the loops over parts and nodes, and that the numbers are those of the problem's window.
 use Rattle.std.specs.Prelude.{◌≡◌, Bool, set, take, drop, replicate}
 use Rattle.std.proofs.Math.Path.{refl, sym, ap, ap₂}
-use Rattle.std.proofs.Common.{subst, ◌∙◌, ⊎_elim, add-one, length-drop, get_or-drop, take-suc, length-take-le, lt-ltb, le-ltb, eq-eqb, ne_eqb}
+use Rattle.std.proofs.Common.{subst, ◌∙◌, add-one, length-drop, get_or-drop, take-suc, length-take-le, lt-ltb, le-ltb, eq-eqb, ne_eqb}
 use Rattle.std.proofs.Math.Bool.{true, false}
-use mathlib.Core.List.{List, [], ◌∷◌, ◌++◌, map, Memᴰ}
-use Prim.Native.Nat.{ℕ, zero, suc, ◌+◌, ◌-◌, ◌*◌, ◌^◌, ◌<◌, ◌≤◌, max, min}
+use mathlib.Core.List.{List, [], ◌∷◌, ◌++◌, map}
+use Prim.Native.Nat.{ℕ, zero, suc, ◌+◌, ◌-◌, ◌*◌, ◌<◌, ◌≤◌, max, min}
 use Rattle.std.proofs.Math.Decide.{ℕ_discrete}
 use Rattle.std.proofs.Math.Nat.{max-le, min-le_right, min-eq_left, min-eq_right, max-zero}
 use native.Mathlib.Omega.{arith}

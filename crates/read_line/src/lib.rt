@@ -1,5 +1,6 @@
 // What a line of any sheet says: its record word and the fields after it (document 01, "The sheets").
 #![tactic(auto)]
+
 ghost use Rattle.std.specs.Prelude.{◌≡◌, [], ◌∷◌, ℕ, ◌+◌, ◌≤◌, ◌<◌, length};
 ghost use Rattle.std.proofs.Math.Seq.{slice};
 ghost use Rattle.definitions.specs.Sheet.Text.{split};

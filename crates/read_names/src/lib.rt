@@ -1,6 +1,7 @@
 // The relations and types of a question as a signature; a relation's number by its name, the built-in ones first, then those declared,
 // and a type's.
 #![tactic(auto)]
+
 ghost use Rattle.std.specs.Prelude.{◌≡◌, ◌&&◌, ◌||◌, ◌+◌, ◌≤◌, ◌<◌, eqb, length};
 ghost use Rattle.std.proofs.Math.Seq.{slice};
 ghost use Rattle.definitions.specs.Lists.{same, any as any_of, position};

@@ -1,17 +1,17 @@
 -- A word as a span of a text: its bytes, its parts and its numbers, letters folded. Assumes nothing.
 use Prim.Native.Nat.{ℕ, zero, suc, ◌+◌, ◌-◌, ◌≤◌, ◌<◌}
-use Rattle.std.specs.Prelude.{◌≡◌, Bool, ◌&&◌, ltb, length, get_or, drop}
+use Rattle.std.specs.Prelude.{◌≡◌, Bool, ltb, length, get_or, drop}
 use Rattle.std.proofs.Math.Path.{refl, sym, ap, ap₂}
 use Rattle.std.proofs.Common.{◌∙◌, inl, inr, drop-drop, take-take, get_or-take, length-take-le}
 use Rattle.std.proofs.Math.Bool.{true, false}
 use Rattle.std.proofs.Math.Option.{Option, some}
-use mathlib.Core.List.{List, [], ◌∷◌, ◌++◌}
+use mathlib.Core.List.{List, [], ◌∷◌}
 use native.Mathlib.Omega.{arith}
 use Rattle.std.proofs.Math.Dec.{eqb}
 use Rattle.std.proofs.Math.ListN.{take}
 use Rattle.std.proofs.Math.Seq.{slice, length-slice, take-nil, take-append_seam}
 use borrow.Author.Tests.{eq-eqb, ne_eqb, lt-ltb, le-ltb}
-use Rattle.definitions.specs.Lists.{if◌then◌else◌, all, option, same}
+use Rattle.definitions.specs.Lists.{all, option, same}
 use Rattle.definitions.specs.Sheet.Text.{is_capital, is_between, no_leading_zero, number}
 use Rattle.definitions.specs.Reply.Lifted.{and_name, exists_name}
 use Rattle.definitions.specs.Reply.Outcome.{written}

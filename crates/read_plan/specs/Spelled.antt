@@ -1,7 +1,7 @@
 -- Letters folded, and what of a text that leaves: where it is cut, its digits, its words in brackets. Assumes nothing.
 use Prim.Native.Nat.{ℕ, zero, suc, ◌+◌, ◌-◌, ◌≤◌, ◌<◌}
 use Rattle.std.proofs.Math.Path.{◌≡◌, refl, ap}
-use Rattle.std.proofs.Common.{sym, ap₂, ◌∙◌, inl, ⊎_elim, arith, eqb→eq}
+use Rattle.std.proofs.Common.{sym, ap₂, ◌∙◌, inl, ⊎_elim, arith}
 use Rattle.std.specs.Prelude.{◌⊎◌, Bool, ◌&&◌, ◌||◌, eqb, leb, length, get_or}
 use Rattle.std.proofs.Math.Bool.{true, false}
 use Rattle.std.proofs.Math.Option.{Option, none, some}

@@ -4,7 +4,7 @@ use Rattle.std.specs.Prelude.{◌≡◌, Bool, true, false, T, eqb, ltb, length,
 use Rattle.std.proofs.Math.Path.{refl, sym, ap, ap₂, subst}
 use Rattle.std.proofs.Common.{◌∙◌, eqb→eq, take-take, length-take-le, lt-ltb}
 use Rattle.std.proofs.Math.Option.{Option, none, some}
-use mathlib.Core.List.{List, [], ◌∷◌, Memᴰ}
+use mathlib.Core.List.{List, [], Memᴰ}
 use native.Mathlib.Omega.{arith}
 use Rattle.std.proofs.Math.ListN.{get_or}
 use Rattle.std.proofs.Math.Seq.{get_or-take}
@@ -30,7 +30,6 @@ use Rattle.rows.specs.Values.{Within}
 use Rattle.problem_table.specs.Lines.{size_in, nodes_in, relations_in, node_line, relation_line, Fits}
 use Rattle.problem_table.specs.Of.{Is}
 use Rattle.print_page.specs.Elements.{NamesAre}
-use Rattle.print_names.specs.declared.Name.TheVariants as N
 use Rattle.print_names.specs.Naming.{named}
 use Rattle.read_plan.specs.Domain.{many_are}
 use Rattle.read_plan.specs.Objects.{below_take}

@@ -1,5 +1,6 @@
 // Spans of a text: where a byte first stands, equal spans, decimal numbers and relation names (document 01, "The sheets").
 #![tactic(auto)]
+
 ghost use Rattle.std.specs.Prelude.{◌≡◌, ◌+◌, ◌≤◌, ◌<◌, length};
 ghost use Rattle.std.proofs.Math.Seq.{slice};
 ghost use Rattle.definitions.specs.Lists.{same as sameText};

@@ -1,5 +1,6 @@
 // Rows: powers, the values of a row, the weights by which values make a row, and the search in a table of starting numbers.
 #![tactic(auto)]
+
 ghost use Rattle.std.specs.Prelude.{◌≡◌, map, ℕ, ◌+◌, ◌*◌, ◌^◌, ◌<◌, ◌≤◌, take, get_or, length};
 ghost use Rattle.definitions.specs.Problem.Atoms.{places_of};
 ghost use Rattle.definitions.specs.Problem.Actions.{values_in, with_value};

@@ -1,6 +1,7 @@
 // The tree of a rule as a table by value: its non-literal nodes in preorder, and the parts of each side by side. It is made from the
 // tree's rows in postorder, in one pass with a stack of parts that have no parent yet.
 #![tactic(auto)]
+
 ghost use Rattle.std.specs.Prelude.{◌≡◌, false, not, ◌&&◌, ◌||◌, ℕ, ◌≤◌, ◌<◌, length, get_or, eqb};
 ghost use Rattle.definitions.specs.Lists.{if◌then◌else◌, filter, below};
 ghost use Rattle.definitions.specs.Problem.Tree.{Tree};

@@ -1,7 +1,7 @@
 -- The folds over the builder's progress, step by step.
 use Rattle.std.specs.Prelude.{ℕ, suc, ◌+◌, ◌-◌, ◌<◌, ◌≤◌, ◌^◌, ◌≡◌, List, set}
 use Rattle.std.proofs.Common.{sym, ap, ◌∙◌, subst, arith, add-one}
-use Rattle.definitions.specs.Problem.Atoms.{Problem, State, node_at, node_width, node_start, atoms}
+use Rattle.definitions.specs.Problem.Atoms.{Problem, State, node_at, node_width, node_start}
 use Rattle.definitions.specs.Problem.Actions.{Action, action_number}
 use Rattle.definitions.specs.Problem.Strips.{after}
 use Rattle.laws.specs.Numbers.{IsAction, action_at_lem, action_below, node_next}

@@ -11,7 +11,7 @@ use Rattle.std.proofs.Math.Nat.{zero-div}
 use Rattle.std.proofs.Math.Arith.{digits_div, digits_mod}
 use Rattle.std.proofs.Math.ListN.{length, take}
 use Rattle.std.proofs.Math.Seq.{take-length}
-use Rattle.definitions.specs.Lists.{if◌then◌else◌, all, filter, from, rank}
+use Rattle.definitions.specs.Lists.{all, filter, from, rank}
 use Rattle.definitions.specs.Sheet.Relations.{Tuple}
 use Rattle.definitions.specs.Problem.Tree.{Tree, leaf, forall_node, exists_node, and_node, or_node, node_sort}
 use Rattle.definitions.specs.Problem.Atoms.{Problem, State, node_at, node_width, rows_of, node_start, proof, holds_node, atom_number}

@@ -4,7 +4,7 @@
 //!     stack least            for each call the least that will do, in steps of 4
 //!
 //! Each call is made in a thread of that size, in a process of its own, and has to answer as the peer
-//! does. The desk program is `../target/bin/desk_main`, or what `NENDOKWE_DESK` names.
+//! does. The desk program is `../crates/desk_main/out/desk_main`, or what `NENDOKWE_DESK` names.
 
 use peer::desk::INPUT_LIMIT;
 use peer::limits::{STEPS, TEXT};
@@ -19,7 +19,7 @@ use std::thread::Builder;
 const ROOMS: [usize; 3] = [16_384, 16_384, STEPS];
 
 fn program() -> String {
-    let own = concat!(env!("CARGO_MANIFEST_DIR"), "/../target/bin/desk_main");
+    let own = concat!(env!("CARGO_MANIFEST_DIR"), "/../crates/desk_main/out/desk_main");
     std::env::var("NENDOKWE_DESK").unwrap_or(own.into())
 }
 

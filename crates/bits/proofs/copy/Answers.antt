@@ -1,6 +1,6 @@
 use native.Mathlib.Omega.{arith}
 use mathlib.Core.Path.{◌≡◌, refl, ap, ◌∙◌}
-use Prim.Native.Nat.{ℕ, ◌+◌, ◌-◌}
+use Prim.Native.Nat.{ℕ, ◌+◌}
 use Rattle.bits.specs.Table.{digit, turned}
 use Rattle.bits.proofs.Laws.{paste_zero}
 use Rattle.bits.proofs.Cuts.{cut_whole}

@@ -2,7 +2,7 @@ use Rattle.bits.proofs.Laws.{bit_fill}
 use borrow.Author.Fill.{fill_more}
 use native.Mathlib.Omega.{arith}
 use mathlib.Core.Path.{◌≡◌, ap, ◌∙◌}
-use Prim.Native.Nat.{ℕ, ◌-◌}
+use Prim.Native.Nat.{ℕ}
 use lib.ListN.{length-set, set}
 use mathlib.Core.List.{List}
 use Rattle.bits.specs.Table.{bit}

@@ -3,7 +3,7 @@ use lib.Count.{ones, ones-le}
 use Rattle.bits.proofs.Laws.{count_le, count_word}
 use native.Mathlib.Omega.{arith}
 use mathlib.Core.Path.{◌≡◌}
-use Prim.Native.Nat.{◌+◌, ◌*◌, ◌-◌, ◌≤◌}
+use Prim.Native.Nat.{◌+◌, ◌*◌, ◌≤◌}
 use lib.ListN.{get_or}
 use Rattle.bits.specs.Table.{Words, bit, count as count_of}
 use Rattle.bits.proofs.ones.Goals as goal

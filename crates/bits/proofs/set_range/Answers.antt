@@ -1,6 +1,5 @@
 use native.Mathlib.Omega.{arith}
 use mathlib.Core.Path.{◌≡◌, refl, ◌∙◌}
-use Prim.Native.Nat.{◌-◌}
 use Rattle.bits.proofs.Laws.{paste_zero}
 use Rattle.bits.proofs.Stores.{paste_on, full_digit}
 use Rattle.bits.proofs.set_range.Goals as goal

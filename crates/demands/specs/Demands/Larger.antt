@@ -11,8 +11,8 @@ use Rattle.definitions.specs.Refusal.{Result, refused, accepted, ◌>>=◌, refu
 use Rattle.definitions.specs.Sheet.Relations.{Tuple}
 use Rattle.definitions.specs.Sheet.Sheets.{read_steps}
 use Rattle.definitions.specs.Problem.Truth.{Case, rule_is_true}
-use Rattle.definitions.specs.Problem.Atoms.{Problem, problem_of, atoms}
-use Rattle.definitions.specs.Problem.Actions.{action_at, actions, action_number}
+use Rattle.definitions.specs.Problem.Atoms.{Problem, problem_of}
+use Rattle.definitions.specs.Problem.Actions.{action_at, action_number}
 use Rattle.definitions.specs.Problem.Built.{built_steps}
 use Rattle.definitions.specs.Reply.Outcome.{sizes, action, read_case, read_problem, nothing}
 use Rattle.definitions.specs.Reply.Outcome.{pick_words, ThirdInput, as_numbers}

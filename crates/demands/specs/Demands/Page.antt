@@ -5,7 +5,7 @@ use mathlib.Core.List.{List, [], ◌∷◌, ◌++◌, map, Memᴰ}
 use Rattle.definitions.specs.Limits.{CaseLimits, usual}
 use Rattle.definitions.specs.Lists.{flat_map, below, is_in}
 use Rattle.definitions.specs.Sheet.Text.{is_between, number, decimal}
-use Rattle.definitions.specs.Reply.Desk.{said, answer}
+use Rattle.definitions.specs.Reply.Desk.{said}
 use Rattle.definitions.specs.Refusal.{Result, refused, accepted, ready_numbers, run_numbers}
 use Rattle.definitions.specs.Sheet.Relations.{Relation}
 use Rattle.definitions.specs.Sheet.Sheets.{Label}

@@ -3,7 +3,6 @@ use Rattle.std.specs.Prelude.{ℕ, ◌+◌, ◌<◌, ◌≤◌, ◌≡◌, ◌�
 use Rattle.std.proofs.Math.Path.{ap}
 use Rattle.definitions.specs.Limits.{CaseLimits, step_limit}
 use Rattle.definitions.specs.Lists.{if◌then◌else◌, is_in}
-use Rattle.definitions.specs.Sheet.Text.{number}
 use Rattle.definitions.specs.Refusal.{Result, refused, accepted, ready_numbers}
 use Rattle.definitions.specs.Sheet.Sheets.{Label}
 use Rattle.definitions.specs.Problem.Truth.{Case}

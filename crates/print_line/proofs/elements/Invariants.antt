@@ -1,5 +1,5 @@
 -- `print_line::elements` meets its contract. What is left to print are the places that the loop has not passed; `width` is the weight of the last of those that it has.
-use Prim.Native.Nat.{◌-◌, ◌^◌}
+use Prim.Native.Nat.{◌^◌}
 use mathlib.Core.Path.{◌≡◌}
 use Rattle.definitions.specs.Problem.Atoms.{places_of}
 use Rattle.print_line.specs.Printed.{Left}

@@ -1,5 +1,4 @@
 use native.Mathlib.Omega.{arith}
-use Prim.Native.Nat.{◌-◌}
 use Rattle.print_plan.specs.Plans.{smaller}
 use Rattle.print_plan.proofs.missing.Goals as goal
 

@@ -1,7 +1,6 @@
 use borrow.Author.Rules.{rules}
 use native.Mathlib.Omega.{arith}
 use mathlib.Core.Path.{refl}
-use Prim.Native.Nat.{◌-◌}
 use Rattle.definitions.specs.Problem.Atoms.{problem_of}
 use Rattle.print_bytes.specs.Emitted.{begin, recut, next as then, finished}
 use Rattle.print_plan.specs.Plans.{lines_next, lines_end}

@@ -1,4 +1,3 @@
-use Prim.Native.Nat.{◌-◌}
 use native.Mathlib.Omega.{arith}
 use Rattle.print_line.specs.Printed.{begin, recut, room_for, next as then, finished, left_length}
 use Rattle.print_report.specs.Report.{count_at, counts_all, next_text, no_text}

@@ -1,4 +1,4 @@
-use Prim.Native.Nat.{◌-◌, ◌^◌}
+use Prim.Native.Nat.{◌^◌}
 use native.Mathlib.Omega.{arith}
 use Rattle.print_line.specs.Printed.{begin, recut, room_for, next as then, finished, left_length}
 use Rattle.print_line.specs.Lines.{said_by}

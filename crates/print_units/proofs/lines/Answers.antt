@@ -1,7 +1,7 @@
 use Rattle.print_units.specs.Units.{part_short}
 use native.Mathlib.Omega.{arith}
 use mathlib.Core.Path.{refl, ap, sym, ◌∙◌}
-use Prim.Native.Nat.{ℕ, ◌+◌, ◌-◌}
+use Prim.Native.Nat.{ℕ, ◌+◌}
 use lib.ListN.{take, drop, get_or}
 use Rattle.print_line.specs.Lines.{said_by}
 use Rattle.print_units.specs.Units.{fewer, units_from}
@@ -9,12 +9,11 @@ use Rattle.print_units.specs.Streams.{lines_in, lines_next, lines_end, all_from,
 use Rattle.print_units.proofs.lines.Goals as goal
 
 pub returns-then-count-eq0 : goal.returns-then-count-eq0
-returns-then-count-eq0 c =
-    (
-      sym (lines_part (said_by c.args.site.now c.args.labels.now) c.args.part c.args.values.now c.args.count c.requires.count_in_bounds c.if-count-eq0.true
-          (omega (arith, part_short c.args.part (omega arith)))),
-      omega arith,
-    )
+returns-then-count-eq0 c = (
+  sym (lines_part (said_by c.args.site.now c.args.labels.now) c.args.part c.args.values.now c.args.count c.requires.count_in_bounds c.if-count-eq0.true
+      (omega (arith, part_short c.args.part (omega arith)))),
+  omega arith,
+)
 
 pub loop-j-init : goal.loop-j-init
 loop-j-init c = (omega arith, omega arith, omega arith, ap (lines_in 0) (all_from (said_by c.args.site.now c.args.labels.now) c.args.part c.args.values.now c.args.count c.requires.count_in_bounds (omega arith)) ∙ omega arith)
@@ -47,34 +46,32 @@ pub loop-j-smaller : goal.loop-j-smaller
 loop-j-smaller c = omega arith
 
 pub loop-j-preserved : goal.loop-j-preserved
-loop-j-preserved c =
-    (
-      omega arith,
-      c.used_after-used.ensures.1,
-      omega (arith, c.loop-j.invariant.2, c.new_line-begun.ensures.1),
-      omega (
-        arith,
-        c.loop-j.invariant.3,
-        c.new_line-begun.ensures.0,
-        lines_next (said_by c.args.site.now c.args.labels.now) c.args.part c.args.values.now c.args.count c.requires.count_in_bounds c.loop-j.used
-            c.unit_length-len.result c.loop-j.j (get_or c.args.values.now c.loop-j.j 0) (omega arith) refl
-            c.unit_length-len.ensures.0,
-        ap (λ (k : ℕ). lines_in k (units_from (said_by c.args.site.now c.args.labels.now) c.args.part
-            (drop (c.loop-j.j + 1) (take c.args.count c.args.values.now)))) c.used_after-used.ensures.0,
-      ),
-    )
+loop-j-preserved c = (
+  omega arith,
+  c.used_after-used.ensures.1,
+  omega (arith, c.loop-j.invariant.2, c.new_line-begun.ensures.1),
+  omega (
+    arith,
+    c.loop-j.invariant.3,
+    c.new_line-begun.ensures.0,
+    lines_next (said_by c.args.site.now c.args.labels.now) c.args.part c.args.values.now c.args.count c.requires.count_in_bounds c.loop-j.used
+        c.unit_length-len.result c.loop-j.j (get_or c.args.values.now c.loop-j.j 0) (omega arith) refl
+        c.unit_length-len.ensures.0,
+    ap (λ (k : ℕ). lines_in k (units_from (said_by c.args.site.now c.args.labels.now) c.args.part
+        (drop (c.loop-j.j + 1) (take c.args.count c.args.values.now)))) c.used_after-used.ensures.0,
+  ),
+)
 
 pub overflow_add-result : goal.overflow_add-result
 overflow_add-result c = omega (arith, c.loop-j.invariant.2)
 
 pub returns : goal.returns
-returns c =
-    (
-      omega (
-        arith,
-        c.loop-j.invariant.3,
-        lines_end (said_by c.args.site.now c.args.labels.now) c.args.part c.args.values.now c.args.count c.requires.count_in_bounds c.loop-j.used
-            c.loop-j.j (omega arith),
-      ),
-      omega (arith, c.loop-j.invariant.2),
-    )
+returns c = (
+  omega (
+    arith,
+    c.loop-j.invariant.3,
+    lines_end (said_by c.args.site.now c.args.labels.now) c.args.part c.args.values.now c.args.count c.requires.count_in_bounds c.loop-j.used
+        c.loop-j.j (omega arith),
+  ),
+  omega (arith, c.loop-j.invariant.2),
+)

@@ -1,6 +1,6 @@
 use native.Mathlib.Omega.{arith}
 use mathlib.Core.Path.{refl, ap, sym}
-use Prim.Native.Nat.{ℕ, ◌+◌, ◌-◌}
+use Prim.Native.Nat.{ℕ, ◌+◌}
 use lib.ListN.{take, drop, get_or}
 use Rattle.print_line.specs.Lines.{said_by}
 use Rattle.print_bytes.specs.Emitted.{begin, recut, next as then, finish, emits_as}
@@ -19,13 +19,12 @@ returns-then-count-eq0 c =
     (emits_as (ap filled (sym c.part_length.ensures.0)) c.fill.ensures)
 
 pub loop-j-init : goal.loop-j-init
-loop-j-init c =
-    (
-      omega arith,
-      omega arith,
-      begin _ (ap (streamed 0) (all_from (said_by c.args.site.now c.args.labels.now) c.args.part c.args.values.now c.args.count c.requires.count_in_bounds (omega arith)))
-          (omega arith) (omega arith),
-    )
+loop-j-init c = (
+  omega arith,
+  omega arith,
+  begin _ (ap (streamed 0) (all_from (said_by c.args.site.now c.args.labels.now) c.args.part c.args.values.now c.args.count c.requires.count_in_bounds (omega arith)))
+      (omega arith) (omega arith),
+)
 
 pub bounds-values-j : goal.bounds-values-j
 bounds-values-j c = omega (arith, c.requires.count_in_bounds)
@@ -52,20 +51,19 @@ pub loop-j-smaller : goal.loop-j-smaller
 loop-j-smaller c = omega arith
 
 pub loop-j-preserved : goal.loop-j-preserved
-loop-j-preserved c =
-    (
-      omega arith,
-      c.used_after-used.ensures.1,
-      recut (ap (λ (k : ℕ). streamed k (units_from (said_by c.args.site.now c.args.labels.now) c.args.part
-          (drop (c.loop-j.j + 1) (take c.args.count c.args.values.now)))) (sym c.used_after-used.ensures.0))
-          (then _ _ (recut (stream_next (said_by c.args.site.now c.args.labels.now) c.args.part c.args.values.now c.args.count c.requires.count_in_bounds
-          c.loop-j.used c.unit_length-len.result
-          c.loop-j.j (get_or c.args.values.now c.loop-j.j 0)
-          (omega arith) refl c.unit_length-len.ensures.0) c.loop-j.invariant.2)
-          (c.unit-next.ensures (drop (c.loop-j.j + 1) (take c.args.count c.args.values.now))
-          (left_over (said_by c.args.site.now c.args.labels.now) c.args.part c.args.values.now c.args.count c.requires.count_in_bounds
-          c.loop-j.j))),
-    )
+loop-j-preserved c = (
+  omega arith,
+  c.used_after-used.ensures.1,
+  recut (ap (λ (k : ℕ). streamed k (units_from (said_by c.args.site.now c.args.labels.now) c.args.part
+      (drop (c.loop-j.j + 1) (take c.args.count c.args.values.now)))) (sym c.used_after-used.ensures.0))
+      (then _ _ (recut (stream_next (said_by c.args.site.now c.args.labels.now) c.args.part c.args.values.now c.args.count c.requires.count_in_bounds
+      c.loop-j.used c.unit_length-len.result
+      c.loop-j.j (get_or c.args.values.now c.loop-j.j 0)
+      (omega arith) refl c.unit_length-len.ensures.0) c.loop-j.invariant.2)
+      (c.unit-next.ensures (drop (c.loop-j.j + 1) (take c.args.count c.args.values.now))
+      (left_over (said_by c.args.site.now c.args.labels.now) c.args.part c.args.values.now c.args.count c.requires.count_in_bounds
+      c.loop-j.j))),
+)
 
 pub returns : goal.returns
 returns c =

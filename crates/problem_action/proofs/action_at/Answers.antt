@@ -74,8 +74,7 @@ pub returns-then-k-goal-2 : goal.returns-then-k-goal-2
 returns-then-k-goal-2 c = (subst (ActFits c.args.table.now) (sym c.finish_act.ensures) (finish_fits c.args.table.now), λ p is. found_goal p c.args.table.now is c.args.k _ (omega arith) c.finish_act.ensures)
 
 pub returns : goal.returns
-returns c =
-    (
-      subst (ActFits c.args.table.now) (sym c.mark_of.ensures) (mark_fits c.args.table.now _ c.requires.fits),
-      λ p is. found_mark p c.args.table.now is c.args.k _ (omega (arith, c.if-k-goal.false, c.if-k-goal-2.false)) c.mark_of.ensures,
-    )
+returns c = (
+  subst (ActFits c.args.table.now) (sym c.mark_of.ensures) (mark_fits c.args.table.now _ c.requires.fits),
+  λ p is. found_mark p c.args.table.now is c.args.k _ (omega (arith, c.if-k-goal.false, c.if-k-goal-2.false)) c.mark_of.ensures,
+)

@@ -19,8 +19,7 @@ pub loop-k-smaller : goal.loop-k-smaller
 loop-k-smaller c = omega (arith, c.least-c.ensures)
 
 pub loop-k-preserved : goal.loop-k-preserved
-loop-k-preserved c =
-    (
+loop-k-preserved c = (
   omega (arith, c.least-c.ensures),
   λ h. omega
       (arith, c.least-c.ensures),

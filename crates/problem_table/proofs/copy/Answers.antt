@@ -1,4 +1,3 @@
-use Prim.Native.Nat.{◌-◌}
 use mathlib.Core.Path.{◌≡◌, refl, ◌∙◌}
 use native.Mathlib.Omega.{arith}
 use lib.ListN.{get_or, length-set}
@@ -10,13 +9,12 @@ pub loop-i-init : goal.loop-i-init
 loop-i-init c = (omega arith, refl, paste-zero _ 0 c.args.src.now, λ h. absurd (omega arith))
 
 pub loop-i-preserved : goal.loop-i-preserved
-loop-i-preserved c =
-    (
-      omega arith,
-      length-set c.loop-i.dst c.loop-i.i (get_or c.args.src.now c.loop-i.i 0) ∙ c.loop-i.invariant.1,
-      copy_next _ _ _ _ (omega arith) (omega arith) c.loop-i.invariant.2,
-      λ h j. omega (arith, c.type_inv.src j),
-    )
+loop-i-preserved c = (
+  omega arith,
+  length-set c.loop-i.dst c.loop-i.i (get_or c.args.src.now c.loop-i.i 0) ∙ c.loop-i.invariant.1,
+  copy_next _ _ _ _ (omega arith) (omega arith) c.loop-i.invariant.2,
+  λ h j. omega (arith, c.type_inv.src j),
+)
 
 pub returns : goal.returns
 returns c =

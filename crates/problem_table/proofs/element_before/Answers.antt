@@ -1,5 +1,4 @@
 use mathlib.Core.Path.{refl, sym, ◌∙◌}
-use Prim.Native.Nat.{◌-◌}
 use native.Mathlib.Omega.{arith}
 use Rattle.problem_table.specs.NeedLaws.{before_whole, before_start, before_turn, before_end, latest_low}
 use Rattle.problem_table.proofs.element_before.Goals as goal

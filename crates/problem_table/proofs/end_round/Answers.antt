@@ -5,8 +5,7 @@ use Rattle.problem_table.specs.NeedLaws.{atoms_small}
 use Rattle.problem_table.proofs.end_round.Goals as goal
 
 pub clear_run-requires : goal.clear_run-requires
-clear_run-requires c =
-    (
+clear_run-requires c = (
   atoms_small _ c.requires _ _
       c.node_line-start.ensures,
   atoms_small _

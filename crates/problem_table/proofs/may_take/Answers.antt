@@ -52,22 +52,22 @@ relation_line-k-requires c = let f = fits_of _ _ _ c.in-MarkIn.is c.requires.act
 pub overflow_add-k : goal.overflow_add-k
 overflow_add-k c =
     omega (
-  arith,
-  (fits_of _ _ _ c.in-MarkIn.is
-      c.requires.act_fits).1,
-  relation_small _
-      c.requires.fits _ _ c.relation_line-k.ensures,
-)
+      arith,
+      (fits_of _ _ _ c.in-MarkIn.is
+          c.requires.act_fits).1,
+      relation_small _
+          c.requires.fits _ _ c.relation_line-k.ensures,
+    )
 
 pub overflow_add-k-in-MarkIn : goal.overflow_add-k-in-MarkIn
 overflow_add-k-in-MarkIn c =
     omega (
-  arith,
-  (fits_of _ _ _ c.in-MarkIn.is
-      c.requires.act_fits).1,
-  relation_small _
-      c.requires.fits _ _ c.relation_line-k.ensures,
-)
+      arith,
+      (fits_of _ _ _ c.in-MarkIn.is
+          c.requires.act_fits).1,
+      relation_small _
+          c.requires.fits _ _ c.relation_line-k.ensures,
+    )
 
 pub relation_line-k-requires-in-MarkOut : goal.relation_line-k-requires-in-MarkOut
 relation_line-k-requires-in-MarkOut c = let f = fits_of _ _ _ c.in-MarkOut.is c.requires.act_fits in search rules
@@ -75,22 +75,22 @@ relation_line-k-requires-in-MarkOut c = let f = fits_of _ _ _ c.in-MarkOut.is c.
 pub overflow_add-k-in-MarkOut : goal.overflow_add-k-in-MarkOut
 overflow_add-k-in-MarkOut c =
     omega (
-  arith,
-  (fits_of _ _ _ c.in-MarkOut.is
-      c.requires.act_fits).1,
-  relation_small _
-      c.requires.fits _ _ c.relation_line-k-in-MarkOut.ensures,
-)
+      arith,
+      (fits_of _ _ _ c.in-MarkOut.is
+          c.requires.act_fits).1,
+      relation_small _
+          c.requires.fits _ _ c.relation_line-k-in-MarkOut.ensures,
+    )
 
 pub overflow_add-k-in-MarkOut-2 : goal.overflow_add-k-in-MarkOut-2
 overflow_add-k-in-MarkOut-2 c =
     omega (
-  arith,
-  (fits_of _ _ _ c.in-MarkOut.is
-      c.requires.act_fits).1,
-  relation_small _
-      c.requires.fits _ _ c.relation_line-k-in-MarkOut.ensures,
-)
+      arith,
+      (fits_of _ _ _ c.in-MarkOut.is
+          c.requires.act_fits).1,
+      relation_small _
+          c.requires.fits _ _ c.relation_line-k-in-MarkOut.ensures,
+    )
 
 pub returns-in-Set : goal.returns-in-Set
 returns-in-Set c = need_set _ _ _ _ _ _ c.in-Set.is c.relation_line.ensures c.may_set.ensures

@@ -35,8 +35,7 @@ pub returns-in-Nowhere : goal.returns-in-Nowhere
 returns-in-Nowhere c = search (rules, label_none, in_wrong)
 
 pub returns-else-is_relation_name : goal.returns-else-is_relation_name
-returns-else-is_relation_name c =
-    (
+returns-else-is_relation_name c = (
   label_malformed _ _ _ _ c.two-f.ensures _ c.in-At.is
       (sym c.is_relation_name.ensures ∙ c.if-is_relation_name.false),
   in_wrong _,

@@ -1,4 +1,3 @@
-use Prim.Native.Nat.{◌-◌}
 use mathlib.Core.Path.{sym, ap, ◌∙◌}
 use native.Mathlib.Omega.{arith}
 use lib.Seq.{slice}
@@ -18,15 +17,14 @@ returns-then-fits c =
     (sym c.fits.ensures ∙ c.if-fits.true)))
 
 pub loop-i-preserved : goal.loop-i-preserved
-loop-i-preserved c =
-    (
-      search rules,
-      search rules,
-      λ g. c.loop-i.invariant.2 g
-          ∙ look_miss c.args.q.now (with_arrays g c.args.from.now c.args.to.now c.args.arity.now)
-          (slice c.args.a c.args.e c.args.s.now) c.args.any c.args.k c.loop-i.i _ (omega arith)
-          (sym c.fits.ensures ∙ c.if-fits.false),
-    )
+loop-i-preserved c = (
+  search rules,
+  search rules,
+  λ g. c.loop-i.invariant.2 g
+      ∙ look_miss c.args.q.now (with_arrays g c.args.from.now c.args.to.now c.args.arity.now)
+      (slice c.args.a c.args.e c.args.s.now) c.args.any c.args.k c.loop-i.i _ (omega arith)
+      (sym c.fits.ensures ∙ c.if-fits.false),
+)
 
 pub returns : goal.returns
 returns c = λ g. sym (ap place_of (c.loop-i.invariant.2 g ∙ look_end c.args.q.now (with_arrays g c.args.from.now c.args.to.now c.args.arity.now) (slice c.args.a c.args.e c.args.s.now) c.args.any c.args.k c.loop-i.i _ (omega arith)))

@@ -1,6 +1,6 @@
 use native.Mathlib.Omega.{arith}
 use mathlib.Core.Path.{refl, sym, ◌∙◌}
-use Prim.Native.Nat.{◌+◌, ◌-◌}
+use Prim.Native.Nat.{◌+◌}
 use Rattle.read_text.proofs.Laws.{end_within}
 use Rattle.read_plan.specs.Words.{words_yes, words_no, words_last}
 use Rattle.read_plan.proofs.all_words.Goals as goal

@@ -1,6 +1,5 @@
 use native.Mathlib.Omega.{arith}
 use mathlib.Core.Path.{refl, sym, ◌∙◌}
-use Prim.Native.Nat.{◌-◌}
 use lib.ListN.{length}
 use Rattle.read_text.proofs.Laws.{end_within}
 use Rattle.read_plan.specs.Lines.{formed_refused, read_over, going_first, going_on, going_wrong, going_open, going_end}

@@ -1,7 +1,5 @@
 use native.Mathlib.Omega.{arith}
 use mathlib.Core.Path.{refl, sym, ◌∙◌}
-use Prim.Native.Nat.{◌-◌}
-use Rattle.definitions.specs.Reply.Pddl.{is_word_byte}
 use Rattle.read_plan.specs.Words.{word_none, word_bytes, bytes_yes, bytes_no, bytes_end}
 use Rattle.read_plan.proofs.is_word.Goals as goal
 

@@ -1,6 +1,6 @@
 use native.Mathlib.Omega.{arith}
 use mathlib.Core.Path.{sym, ◌∙◌}
-use Prim.Native.Nat.{◌+◌, ◌-◌}
+use Prim.Native.Nat.{◌+◌}
 use Rattle.rows.specs.Laws.{within_set}
 use Rattle.read_text.proofs.Laws.{end_within}
 use Rattle.read_plan.specs.Objects.{gathered_first, objects_wrong, objects_many, objects_all, gathered_next}

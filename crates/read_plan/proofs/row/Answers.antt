@@ -1,6 +1,6 @@
 use native.Mathlib.Omega.{arith}
 use mathlib.Core.Path.{◌≡◌, subst, sym}
-use Prim.Native.Nat.{ℕ, ◌+◌, ◌-◌, ◌^◌, ◌<◌}
+use Prim.Native.Nat.{ℕ, ◌+◌, ◌^◌, ◌<◌}
 use lib.ListN.{take}
 use Rattle.definitions.specs.Problem.Atoms.{row_of}
 use Rattle.read_plan.specs.Objects.{row_none, row_next, row_few, small_product}

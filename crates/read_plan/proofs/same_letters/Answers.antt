@@ -1,6 +1,5 @@
 use native.Mathlib.Omega.{arith}
 use mathlib.Core.Path.{refl, sym, ◌∙◌}
-use Prim.Native.Nat.{◌-◌}
 use Rattle.read_plan.specs.Spans.{letters_hit, letters_miss, letters_end}
 use Rattle.read_plan.proofs.same_letters.Goals as goal
 

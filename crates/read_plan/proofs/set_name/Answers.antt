@@ -1,7 +1,6 @@
 use native.Mathlib.Omega.{arith}
 use mathlib.Core.Path.{refl, subst}
 use mathlib.Core.Bool.{Bool}
-use Prim.Native.Nat.{◌-◌}
 use lib.Seq.{slice}
 use Rattle.read_plan.specs.Domain.{IsSet, none_first, none_next, set_here, set_nowhere}
 use Rattle.read_plan.proofs.set_name.Goals as goal

@@ -1,7 +1,6 @@
 use native.Mathlib.Omega.{arith}
 use mathlib.Core.Path.{refl, sym, ap, ◌∙◌}
 use mathlib.Core.Bool.{Bool}
-use Prim.Native.Nat.{◌-◌}
 use Rattle.read_plan.specs.Numbers.{told}
 use Rattle.read_plan.specs.Lines.{read_within}
 use Rattle.read_plan.specs.Writing.{goes_first, line_whole, goes_on, goes_stop, goes_all, set_room}

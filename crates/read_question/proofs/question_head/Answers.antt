@@ -1,4 +1,3 @@
-use Prim.Native.Nat.{◌-◌}
 use mathlib.Core.Path.{sym, subst}
 use native.Mathlib.Omega.{arith}
 use Rattle.read_question.proofs.Heading.{head_long, head_start, head_sound, head_rule, head_bad, head_room, head_next, head_missing}

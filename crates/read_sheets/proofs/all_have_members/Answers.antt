@@ -1,6 +1,4 @@
-use Prim.Native.Nat.{◌-◌}
 use mathlib.Core.Path.{refl, sym, ◌∙◌}
-use mathlib.Core.Bool.{true}
 use native.Mathlib.Omega.{arith}
 use Rattle.definitions.specs.Lists.{all, from, below}
 use Rattle.read_sheets.proofs.Loops.{no_member, a_member, each_next, each_fails, each_end}

@@ -1,4 +1,3 @@
-use Prim.Native.Nat.{◌-◌}
 use mathlib.Core.Path.{refl}
 use native.Mathlib.Omega.{arith}
 use Rattle.read_sheets.proofs.Loops.{picks_long, picks_start, picks_next, picks_fault, picks_done}

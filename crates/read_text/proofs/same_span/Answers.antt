@@ -1,4 +1,3 @@
-use Prim.Native.Nat.{◌-◌}
 use mathlib.Core.Path.{refl, sym, ◌∙◌}
 use native.Mathlib.Omega.{arith}
 use lib.Seq.{slice}
@@ -33,15 +32,14 @@ pub loop-i-smaller : goal.loop-i-smaller
 loop-i-smaller c = omega arith
 
 pub loop-i-preserved : goal.loop-i-preserved
-loop-i-preserved c =
-    (
-      omega arith,
-      c.loop-i.invariant.1,
-      c.loop-i.invariant.2,
-      c.loop-i.invariant.3 ∙ spans_hit c.args.s.now c.args.a c.args.e c.args.t.now
-          c.args.b c.args.f c.loop-i.i c.span_length-n.result c.loop-i.invariant.1
-          c.loop-i.invariant.2 (omega arith) c.if-s-a.false,
-    )
+loop-i-preserved c = (
+  omega arith,
+  c.loop-i.invariant.1,
+  c.loop-i.invariant.2,
+  c.loop-i.invariant.3 ∙ spans_hit c.args.s.now c.args.a c.args.e c.args.t.now
+      c.args.b c.args.f c.loop-i.i c.span_length-n.result c.loop-i.invariant.1
+      c.loop-i.invariant.2 (omega arith) c.if-s-a.false,
+)
 
 pub returns : goal.returns
 returns c = sym (c.loop-i.invariant.3 ∙ spans_end c.args.s.now c.args.a c.args.e c.args.t.now c.args.b c.args.f c.loop-i.i c.span_length-n.result c.loop-i.invariant.1 c.loop-i.invariant.2 (omega arith))

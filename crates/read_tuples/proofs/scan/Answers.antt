@@ -1,6 +1,4 @@
-use Prim.Native.Nat.{◌-◌}
 use mathlib.Core.Path.{◌≡◌, sym, ◌∙◌}
-use mathlib.Core.Logic.{⊎_elim}
 use native.Mathlib.Omega.{arith}
 use lib.Seq.{length-slice}
 use Rattle.read_tuples.proofs.Naming.{not_yet, other_length, other_bytes, found_here, found_nowhere, found_empty}

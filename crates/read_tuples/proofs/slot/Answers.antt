@@ -1,4 +1,3 @@
-use Prim.Native.Nat.{◌-◌}
 use native.Mathlib.Omega.{arith}
 use Rattle.read_text.proofs.Laws.{in_text}
 use Rattle.read_tuples.proofs.slot.Goals as goal

@@ -1,6 +1,5 @@
 use mathlib.Core.Path.{ap}
-use mathlib.Core.Logic.{⊎_elim, inl, inr}
-use Prim.Native.Nat.{◌-◌}
+use mathlib.Core.Logic.{inl, inr}
 use native.Mathlib.Omega.{arith}
 use borrow.Author.Rules.{rules}
 use Rattle.rule_nodes.proofs.Laws.{mark_start, mark_end, mark_yes, mark_no}
@@ -25,10 +24,11 @@ loop-i-smaller c = omega arith
 pub loop-i-preserved : goal.loop-i-preserved
 loop-i-preserved c =
     let w = c.wide-l in elim c.if-l-lt4.branch [
-      then-l-lt4 x ↦ mark_yes _ _ _ _ (search rules) _ c.loop-i.invariant (omega arith) (λ e. c.if-i-width.false (omega (arith, c.wide-width.ensures.0))) _
+      | then-l-lt4 x ↦ mark_yes _ _ _ _ (search rules) _ c.loop-i.invariant (omega arith) (λ e. c.if-i-width.false (omega (arith, c.wide-width.ensures.0))) _
           w.ensures.0 _ x.if-l-lt4.true (ap (λ m. m.at) x.r-is)
-    | else-l-lt4 x ↦ mark_no _ _ _ _ (search rules) _ c.loop-i.invariant (omega arith) (λ e. c.if-i-width.false (omega (arith, c.wide-width.ensures.0))) _
-          w.ensures.0 _ (omega (arith, x.if-l-lt4.false)) (ap (λ m. m.at) x.r-is) ]
+      | else-l-lt4 x ↦ mark_no _ _ _ _ (search rules) _ c.loop-i.invariant (omega arith) (λ e. c.if-i-width.false (omega (arith, c.wide-width.ensures.0))) _
+          w.ensures.0 _ (omega (arith, x.if-l-lt4.false)) (ap (λ m. m.at) x.r-is)
+    ]
 
 pub returns : goal.returns
 returns c = mark_end _ _ _ _ (search rules) _ c.loop-i.invariant (inr (omega arith))

@@ -1,4 +1,3 @@
-use Prim.Native.Nat.{◌-◌}
 use native.Mathlib.Omega.{arith}
 use Rattle.rule_nodes.proofs.Laws.{list_start, list_width, list_again, list_end}
 use Rattle.rule_nodes.proofs.free_levels.Goals as goal
