@@ -1,5 +1,5 @@
 -- What the call that checks layered plans answers and leaves, one law for each place where it ends.
-use Rattle.std.specs.Prelude.{ℕ, ◌+◌, ◌-◌, ◌/◌, ◌≤◌, ◌<◌, ◌≡◌, eqb, take}
+use Rattle.std.specs.Prelude.{ℕ, ◌+◌, ◌-◌, ◌/◌, ◌≤◌, ◌<◌, ◌≡◌, eqb, take, if◌then◌else◌}
 use Rattle.std.proofs.Math.Path.{refl, sym, ap}
 use Rattle.std.proofs.Common.{subst, ◌∙◌, length-take-le}
 use Rattle.std.proofs.Math.Option.{none}
@@ -7,7 +7,7 @@ use mathlib.Core.List.{List, ◌++◌}
 use Rattle.std.proofs.Math.ListN.{length, drop}
 use borrow.Author.Tests.{eq-eqb, ne_eqb}
 use Rattle.definitions.specs.Limits.{CaseLimits, step_limit}
-use Rattle.definitions.specs.Lists.{if◌then◌else◌, is_some}
+use Rattle.definitions.specs.Lists.{is_some}
 use Rattle.definitions.specs.Refusal.{Result, refused, accepted, ◌>>=◌}
 use Rattle.definitions.specs.Problem.Truth.{Case}
 use Rattle.definitions.specs.Problem.Atoms.{Problem, problem_of, problem_with, state_words}

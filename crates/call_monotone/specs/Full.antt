@@ -1,12 +1,12 @@
 -- Words of all ones hold all tuples of the `choose` relations.
 use Prim.Native.Nat.{ℕ, zero, suc, ◌+◌, ◌-◌, ◌*◌, ◌/◌, ◌%◌, ◌<◌, ◌≤◌}
-use Rattle.std.specs.Prelude.{◌≡◌, Bool, true, false, T, get_or, replicate}
+use Rattle.std.specs.Prelude.{◌≡◌, Bool, true, false, T, get_or, replicate, if◌then◌else◌}
 use Rattle.std.proofs.Math.Path.{refl, sym, ap, subst}
 use Rattle.std.proofs.Common.{◌∙◌, add-zero, mod-lt}
 use mathlib.Core.List.{List, [], ◌∷◌, ◌++◌, map}
 use native.Mathlib.Omega.{arith}
 use Rattle.std.proofs.Math.ListN.{length}
-use Rattle.definitions.specs.Lists.{if◌then◌else◌, filter, from, below, sum}
+use Rattle.definitions.specs.Lists.{filter, from, below, sum}
 use Rattle.definitions.specs.Sheet.Relations.{is_among, is_chosen}
 use Rattle.definitions.specs.Problem.Truth.{Case, are_picks}
 use Rattle.definitions.specs.Problem.Atoms.{Problem, problem_of, relation_at, tuples_of}

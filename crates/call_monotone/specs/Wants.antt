@@ -1,10 +1,10 @@
 -- The profile by the node table: there is no `every` line, no part of a node is a not-tuple of a `choose`, and no `choose` is of a function kind.
-use Rattle.std.specs.Prelude.{ℕ, suc, ◌+◌, ◌≤◌, ◌<◌, ◌≡◌, Bool, ◌&&◌, List, [], ◌∷◌, ◌++◌, map, T, eqb, ltb, get_or, take, drop}
+use Rattle.std.specs.Prelude.{ℕ, suc, ◌+◌, ◌≤◌, ◌<◌, ◌≡◌, Bool, ◌&&◌, List, [], ◌∷◌, ◌++◌, map, T, eqb, ltb, get_or, take, drop, if◌then◌else◌}
 use Rattle.std.proofs.Math.Path.{refl, ap, ap₂}
 use Rattle.std.proofs.Common.{sym, subst, ◌∙◌, arith, eq-eqb, ne_eqb, length-drop, get_or-take, get_or-drop, length-take-le}
 use Rattle.std.proofs.Math.Bool.{true, false, not, ◌||◌}
 use Rattle.std.proofs.Math.ListN.{length}
-use Rattle.definitions.specs.Lists.{if◌then◌else◌, is_some, all, any, below}
+use Rattle.definitions.specs.Lists.{is_some, all, any, below}
 use Rattle.definitions.specs.Sheet.Relations.{Relation, Kind, static, plain, Fun, PFun, Inj, PInj, universal, is_chosen, is_function}
 use Rattle.definitions.specs.Sheet.Sheets.{Question, first_chosen}
 use Rattle.definitions.specs.Problem.Truth.{Case}

@@ -1,5 +1,5 @@
 -- Where no element is printed by more than two bytes, every step has one line, and a page's first line is that of its step. Assumes nothing.
-use Rattle.std.specs.Prelude.{ℕ, zero, suc, ◌+◌, ◌-◌, ◌*◌, ◌^◌, ◌≤◌, ◌<◌, ◌≡◌, refl, Bool, true, false, T, ltb, get_or}
+use Rattle.std.specs.Prelude.{ℕ, zero, suc, ◌+◌, ◌-◌, ◌*◌, ◌^◌, ◌≤◌, ◌<◌, ◌≡◌, refl, Bool, true, false, T, ltb, get_or, if◌then◌else◌}
 use Rattle.std.proofs.Common.{sym, subst, ◌∙◌, ⊎_elim, add-one, ltb→lt, ltb-true, ltb-false, le-leb}
 use Rattle.std.proofs.Math.Path.{ap}
 use Rattle.std.proofs.Math.Option.{some}
@@ -8,7 +8,7 @@ use mathlib.Core.List.{List, [], ◌∷◌, ◌++◌, map, Memᴰ}
 use native.Mathlib.Omega.{arith}
 use Rattle.std.proofs.Math.ListN.{length, length-append}
 use Rattle.std.proofs.Math.Seq.{length-slice}
-use Rattle.definitions.specs.Lists.{if◌then◌else◌, option, flat_map}
+use Rattle.definitions.specs.Lists.{option, flat_map}
 use Rattle.definitions.specs.Refusal.{accepted}
 use Rattle.definitions.specs.Sheet.Sheets.{Label}
 use Rattle.definitions.specs.Problem.Tree.{free}

@@ -1,9 +1,8 @@
 -- The sizes by the tally: what is answered within the limits and over them, and from what was counted.
-use Rattle.std.specs.Prelude.{ℕ, zero, ◌≡◌, refl, Bool, true, false, ◌&&◌, ◌||◌, List, ltb}
+use Rattle.std.specs.Prelude.{ℕ, zero, ◌≡◌, refl, Bool, true, false, ◌&&◌, ◌||◌, List, ltb, if◌then◌else◌}
 use Rattle.std.proofs.Math.Path.{sym, ap}
 use Rattle.std.proofs.Common.{◌∙◌, arith}
 use Rattle.definitions.specs.Limits.{CaseLimits}
-use Rattle.definitions.specs.Lists.{if◌then◌else◌}
 use Rattle.definitions.specs.Refusal.{Result, refused, accepted, ◌>>=◌, refuse_if}
 use Rattle.definitions.specs.Reply.Tally.{tally, Tally as Tallies}
 use Rattle.definitions.specs.Reply.Outcome

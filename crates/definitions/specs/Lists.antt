@@ -1,5 +1,5 @@
 -- What lists of numbers stand for, plain functions on lists, and a test that chooses between two values.
-use Rattle.std.specs.Prelude.{ℕ, zero, suc, ◌+◌, Bool, true, false, ◌&&◌, ◌||◌, List, [], ◌∷◌, ◌++◌, eqb, leb, ltb}
+use Rattle.std.specs.Prelude.{ℕ, zero, suc, ◌+◌, Bool, true, false, ◌&&◌, ◌||◌, List, [], ◌∷◌, ◌++◌, eqb, leb, ltb, if◌then◌else◌}
 use Rattle.std.proofs.Math.Option.{Option, none, some}
 
 -- the bytes of a text or of a part of one; those of a name; action numbers; words of 64 bits, as states and picks are lent
@@ -14,11 +14,6 @@ Steps = List ℕ
 
 abbrev pub Words : Type 0
 Words = List ℕ
-
-infixr 5 if◌then◌else◌
-abbrev pub if◌then◌else◌ : {A : Type 0} → Bool → A → A → A
-if◌then◌else◌ true x y = x
-if◌then◌else◌ false x y = y
 
 module _ {A : Type 0} where
   -- every element passes the test; some element does; those that do, in order

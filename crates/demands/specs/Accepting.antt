@@ -1,9 +1,9 @@
 -- Checking accepts exactly the steps that reach the goal.
-use Rattle.std.specs.Prelude.{ℕ, zero, suc, ◌+◌, ◌≤◌, ◌≡◌, refl, Bool, true, false, ◌&&◌, List, [], ◌∷◌, T, ltb, length}
+use Rattle.std.specs.Prelude.{ℕ, zero, suc, ◌+◌, ◌≤◌, ◌≡◌, refl, Bool, true, false, ◌&&◌, List, [], ◌∷◌, T, ltb, length, if◌then◌else◌}
 use Rattle.std.proofs.Common.{sym, ap, ◌∙◌, arith, add-zero, zero-add, le-ltb}
 use Rattle.std.proofs.Math.Option.{Option, none, some}
 use Rattle.definitions.specs.Limits.{CaseLimits, step_limit}
-use Rattle.definitions.specs.Lists.{if◌then◌else◌, option}
+use Rattle.definitions.specs.Lists.{option}
 use Rattle.definitions.specs.Refusal.{refused, accepted, ◌>>=◌, refuse_if}
 use Rattle.definitions.specs.Problem.Atoms.{Problem, State, initial}
 use Rattle.definitions.specs.Problem.Actions.{Action, action_at}

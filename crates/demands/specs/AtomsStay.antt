@@ -1,12 +1,12 @@
 -- "Atom numbers don't move": of any case, with whatever types, the atoms are those of the case without its types, number for number.
 use Prim.Native.Nat.{ℕ, zero, suc, ◌*◌, ◌^◌}
-use Rattle.std.specs.Prelude.{◌≡◌, Bool, true, false, not, ◌&&◌, ◌||◌, eqb, length}
+use Rattle.std.specs.Prelude.{◌≡◌, Bool, true, false, not, ◌&&◌, ◌||◌, eqb, length, if◌then◌else◌}
 use Rattle.std.proofs.Math.Path.{refl, ap, ap₂, fun_ext}
 use Rattle.std.proofs.Common.{sym, ◌∙◌}
 use Rattle.std.proofs.Math.Option.{Option, none, some}
 use mathlib.Core.List.{List, [], ◌∷◌, ◌++◌, map, append_assoc}
 use Rattle.definitions.specs.Limits.{nesting_limit}
-use Rattle.definitions.specs.Lists.{if◌then◌else◌, option, listed, same, position, filter, flat_map, map_from, below}
+use Rattle.definitions.specs.Lists.{option, listed, same, position, filter, flat_map, map_from, below}
 use Rattle.definitions.specs.Sheet.Relations.{Relation, built_in, is_total, number_of}
 use Rattle.definitions.specs.Sheet.Formula.{Quantified, Formula, Formulas, literal, negation, implication, conjunction, disjunction, exists, forall, nil, cons, variables_of, sort_of}
 use Rattle.definitions.specs.Sheet.Sheets.{relations, relations_of, first_chosen}

@@ -1,12 +1,12 @@
 -- Numbers on paper, read back from the columns they stand in.
-use Rattle.std.specs.Prelude.{ℕ, zero, suc, ◌-◌, ◌^◌, ◌≤◌, ◌<◌, ◌≡◌, refl, true, ◌&&◌, eqb, leb, length, drop}
+use Rattle.std.specs.Prelude.{ℕ, zero, suc, ◌-◌, ◌^◌, ◌≤◌, ◌<◌, ◌≡◌, refl, true, ◌&&◌, eqb, leb, length, drop, if◌then◌else◌}
 use Rattle.std.proofs.Common.{sym, ◌∙◌, arith, leb→le, length-append, ne_eqb}
 use Rattle.std.proofs.Math.Path.{ap}
 use Rattle.std.proofs.Math.Option.{some}
 use mathlib.Core.List.{List, [], ◌∷◌, ◌++◌, map, append_assoc}
 use Rattle.std.proofs.Math.ListN.{take}
 use Rattle.std.proofs.Math.Seq.{take_at, drop_at}
-use Rattle.definitions.specs.Lists.{if◌then◌else◌, all, flat_map}
+use Rattle.definitions.specs.Lists.{all, flat_map}
 use Rattle.definitions.specs.Sheet.Text.{decimal, is_between, is_digit, number}
 use Rattle.definitions.specs.Sheet.Sheets.{Label}
 use Rattle.definitions.specs.Problem.Atoms.{Problem}

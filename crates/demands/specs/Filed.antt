@@ -1,11 +1,10 @@
 -- What the desk program prints, if it is no refusal: both records of one case, each of which tells the other.
-use Rattle.std.specs.Prelude.{ℕ, zero, ◌≤◌, ◌≡◌, Bool, false, ltb, length}
+use Rattle.std.specs.Prelude.{ℕ, zero, ◌≤◌, ◌≡◌, Bool, false, ltb, length, if◌then◌else◌}
 use Rattle.std.proofs.Common.{sym, ◌∙◌, arith}
 use Rattle.std.proofs.Math.Path.{subst}
 use Rattle.std.proofs.Math.Bool.{true}
 use mathlib.Core.List.{List}
 use Rattle.definitions.specs.Limits.{CaseLimits, early, desk_bytes, desk_words, desk_steps}
-use Rattle.definitions.specs.Lists.{if◌then◌else◌}
 use Rattle.definitions.specs.Sheet.Text.{lines}
 use Rattle.definitions.specs.Refusal.{accepted, ◌>>=◌, refuse_if}
 use Rattle.definitions.specs.Sheet.Relations.{Tuple}

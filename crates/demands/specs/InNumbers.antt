@@ -1,7 +1,7 @@
 -- A case rewritten with numbers: a site without its `label` lines and with numbers for labels is read as the same site, and picks
 -- rewritten so are read as the same picks. So every call answers as before.
 use Prim.Native.Nat.{ℕ, zero, ◌+◌, ◌^◌, ◌<◌, ◌≤◌}
-use Rattle.std.specs.Prelude.{◌≡◌, Bool, true, false, not, ◌||◌, T, eqb, ltb, leb}
+use Rattle.std.specs.Prelude.{◌≡◌, Bool, true, false, not, ◌||◌, T, eqb, ltb, leb, if◌then◌else◌}
 use Rattle.std.proofs.Math.Path.{refl, sym, ap, ap₂, subst}
 use Rattle.std.proofs.Common.{◌∙◌, arith, ltb→lt, lt→ltb, T_not}
 use Rattle.std.proofs.Math.Option.{Option, none, some}
@@ -10,7 +10,7 @@ use Rattle.std.proofs.Math.Dec.{leb→le, not_T}
 use Rattle.std.proofs.Math.ListN.{length, length-map}
 use borrow.Author.Tests.{le-leb, not-false}
 use Rattle.definitions.specs.Limits.{CaseLimits, text_limit}
-use Rattle.definitions.specs.Lists.{if◌then◌else◌, all, same, option, flat_map, is_empty, below}
+use Rattle.definitions.specs.Lists.{all, same, option, flat_map, is_empty, below}
 use Rattle.definitions.specs.Sheet.Text.{bytes, decimal, on_first, split, Line, lines_from, lines, fields, is_between}
 use Rattle.definitions.specs.Refusal.{Result, accepted, ◌>>=◌, refuse_if, given, read_lines, read_text}
 use Rattle.definitions.specs.Sheet.Relations.{Relation, Tuple}

@@ -1,6 +1,6 @@
 -- Layers: how many an accepted plan has at the least; layers as they are lent; what the calls answer, told by the plain ones.
 use Prim.Native.Nat.{ℕ, zero, suc, ◌+◌, ◌-◌, ◌*◌, ◌<◌, ◌≤◌}
-use Rattle.std.specs.Prelude.{◌≡◌, ◌⊎◌, ◌↔◌, Bool, ◌&&◌, eqb, ltb, get_or, take, drop}
+use Rattle.std.specs.Prelude.{◌≡◌, ◌⊎◌, ◌↔◌, Bool, ◌&&◌, eqb, ltb, get_or, take, drop, if◌then◌else◌}
 use Rattle.std.proofs.Math.Path.{refl, sym, ap, subst}
 use Rattle.std.proofs.Common.{ap₂, ◌∙◌, zero-add, T_not, take-append-drop, length-append, length-drop, take_at, drop_at, eq-eqb, eqb-true, le-ltb, ltb-false}
 use Rattle.std.proofs.Math.Logic.{inl, inr, ⊎_elim}
@@ -14,7 +14,7 @@ use Rattle.std.proofs.Math.Dec.{T, not_T}
 use Rattle.std.proofs.Math.ListN.{length}
 use Rattle.std.proofs.lemmas.Bool.{not-false}
 use Rattle.definitions.specs.Limits.{CaseLimits, step_limit}
-use Rattle.definitions.specs.Lists.{if◌then◌else◌, option, before, rank, is_in}
+use Rattle.definitions.specs.Lists.{option, before, rank, is_in}
 use Rattle.definitions.specs.Refusal.{Result, refused, accepted, ◌>>=◌, refuse_if, ready_numbers}
 use Rattle.definitions.specs.Sheet.Relations.{Tuple}
 use Rattle.definitions.specs.Sheet.Sheets.{every_number}

@@ -1,6 +1,6 @@
 -- What an unground fact stands for: each atom of the problem has its own fact, and an action with parameters needs, adds and removes,
 -- at the objects of a step, the facts of the atoms that the step's action does.
-use Rattle.std.specs.Prelude.{ℕ, zero, suc, ◌+◌, ◌-◌, ◌*◌, ◌^◌, ◌<◌, ◌≡◌, Bool, ◌&&◌, T, eqb, get_or}
+use Rattle.std.specs.Prelude.{ℕ, zero, suc, ◌+◌, ◌-◌, ◌*◌, ◌^◌, ◌<◌, ◌≡◌, Bool, ◌&&◌, T, eqb, get_or, if◌then◌else◌}
 use Rattle.std.proofs.Math.Path.{refl, sym, ap, ap₂}
 use Rattle.std.proofs.Common.{subst, ◌∙◌, pow-suc, eqb→eq}
 use Rattle.std.proofs.Math.Bool.{true, false}
@@ -10,7 +10,7 @@ use native.Mathlib.Omega.{arith}
 use Rattle.std.proofs.Math.Dec.{eqb_refl}
 use Rattle.std.proofs.Math.ListN.{length}
 use Rattle.std.proofs.lemmas.List.{length-map}
-use Rattle.definitions.specs.Lists.{if◌then◌else◌, option, position, below, greatest}
+use Rattle.definitions.specs.Lists.{option, position, below, greatest}
 use Rattle.definitions.specs.Problem.Tree.{Tree, Trees, leaf, forall_node, exists_node, and_node, or_node, end, ◌then◌, nodes, Part, parts_from, is_forall, free}
 use Rattle.definitions.specs.Problem.Atoms.{Problem, relation_at, node_at, row_of, places_of, tuples_of, rows_of, node_width, Atom, guess, proof, goal, tuple, not_tuple, free_domain, free_range, holds_node, marked}
 use Rattle.definitions.specs.Problem.Actions.{Values, values_in, with_value, part_atom, part_atoms}

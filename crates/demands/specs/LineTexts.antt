@@ -1,11 +1,11 @@
 -- Sheets read line by line, both ways: what a text that was read says in its lines, and that lines which say it are read so.
-use Rattle.std.specs.Prelude.{ℕ, ◌+◌, ◌≡◌, ◌⊎◌, Bool, true, false, ◌||◌, T}
+use Rattle.std.specs.Prelude.{ℕ, ◌+◌, ◌≡◌, ◌⊎◌, Bool, true, false, ◌||◌, T, if◌then◌else◌}
 use Rattle.std.proofs.Math.Path.{refl, sym, ap, subst}
 use Rattle.std.proofs.Common.{◌∙◌, inl, inr, arith}
 use Rattle.std.proofs.Math.Option.{Option, none, some}
 use mathlib.Core.List.{List, [], ◌∷◌, ◌++◌, map, append_assoc, append-nil}
 use Rattle.std.proofs.Math.ListN.{length, length-append}
-use Rattle.definitions.specs.Lists.{if◌then◌else◌, same, option, is_empty}
+use Rattle.definitions.specs.Lists.{same, option, is_empty}
 use Rattle.definitions.specs.Sheet.Text.{bytes, number, split, Line, lines_from, fields, is_between, is_relation_name}
 use Rattle.definitions.specs.Refusal.{Result, accepted, ◌>>=◌, read_lines}
 use Rattle.definitions.specs.Sheet.Relations.{Kind, plain}

@@ -1,6 +1,6 @@
 -- A plan's text whose lines have the form, but one of which is no step (22), is no plan of the written domain and instance either.
 use Prim.Native.Nat.{ℕ, suc, ◌+◌, ◌-◌, ◌*◌, ◌<◌, ◌≤◌}
-use Rattle.std.specs.Prelude.{◌≡◌, ◌&&◌, drop}
+use Rattle.std.specs.Prelude.{◌≡◌, ◌&&◌, drop, if◌then◌else◌}
 use Rattle.std.proofs.Math.Path.{refl, sym, ap}
 use Rattle.std.proofs.Common.{ap₂, subst, ◌∙◌, eq-eqb, eqb-true}
 use Rattle.std.proofs.Math.Logic.{⊎_elim}
@@ -11,7 +11,7 @@ use mathlib.Core.List.{List, [], ◌∷◌, ◌++◌, map, map-append, append-ni
 use native.Mathlib.Omega.{arith}
 use Rattle.std.proofs.Math.Dec.{T, eqb, eqb→eq}
 use Rattle.std.proofs.Math.ListN.{length, get_or, length-map}
-use Rattle.definitions.specs.Lists.{if◌then◌else◌, all, any, same, option, find, from, below, is_empty}
+use Rattle.definitions.specs.Lists.{all, any, same, option, find, from, below, is_empty}
 use Rattle.definitions.specs.Sheet.Text.{split, is_between, is_capital}
 use Rattle.definitions.specs.Refusal.{Result, refused, accepted, ◌>>=◌, given}
 use Rattle.definitions.specs.Sheet.Relations.{built_in_holds}

@@ -1,7 +1,7 @@
 -- A question that uses no types: its tree is the one that it has where no types are declared, every sort in that tree and of a relation's
 -- places is 0, and so the problem does not depend on types and members.
 use Prim.Native.Nat.{ℕ, zero, suc, ◌+◌, ◌*◌, ◌/◌, ◌%◌, ◌≤◌}
-use Rattle.std.specs.Prelude.{◌≡◌, Bool, ◌&&◌, ◌||◌, T, eqb, ltb, get_or, drop}
+use Rattle.std.specs.Prelude.{◌≡◌, Bool, ◌&&◌, ◌||◌, T, eqb, ltb, get_or, drop, if◌then◌else◌}
 use Rattle.std.proofs.Math.Path.{refl, ap, ap₂, fun_ext}
 use Rattle.std.proofs.Common.{sym, subst, ◌∙◌, eqb→eq, eq-eqb, le-ltb}
 use Rattle.std.proofs.Math.Bool.{true, false, not}
@@ -10,7 +10,7 @@ use mathlib.Core.List.Memᴰ
 use mathlib.Core.List.{List, [], ◌∷◌, ◌++◌, map, Memᴰ}
 use native.Mathlib.Omega.{arith}
 use Rattle.std.proofs.Math.ListN.{length, take}
-use Rattle.definitions.specs.Lists.{if◌then◌else◌, all, any, option, listed, filter, map_from, below, is_in, before}
+use Rattle.definitions.specs.Lists.{all, any, option, listed, filter, map_from, below, is_in, before}
 use Rattle.definitions.specs.Sheet.Relations.{Relation, is_chosen, is_function, built_in}
 use Rattle.definitions.specs.Sheet.Formula.{Quantified, Formula, Formulas, literal, negation, implication, conjunction, disjunction, exists, forall, nil, cons, variables_of, sort_named, sort_of, is_type, has_type, is_typed, are_typed}
 use Rattle.definitions.specs.Sheet.Sheets.{Member, is_member, relations, relations_of, first_chosen, every_number}

@@ -1,6 +1,6 @@
 -- One pick more or less: a node that does not mention its relation keeps its true atoms, so the built steps move by at most the
 -- allowance; and what the call that tells allowances refuses with.
-use Rattle.std.specs.Prelude.{ℕ, suc, ◌+◌, ◌/◌, ◌%◌, ◌≤◌, ◌≡◌, ◌⊎◌, Bool, not, ◌&&◌, ◌||◌, eqb}
+use Rattle.std.specs.Prelude.{ℕ, suc, ◌+◌, ◌/◌, ◌%◌, ◌≤◌, ◌≡◌, ◌⊎◌, Bool, not, ◌&&◌, ◌||◌, eqb, if◌then◌else◌}
 use Rattle.std.proofs.Math.Path.{refl, sym, ap, subst}
 use Rattle.std.proofs.Common.{ap₂}
 use Rattle.std.proofs.Math.Logic.{⊎_elim}
@@ -12,7 +12,7 @@ use Rattle.std.proofs.lemmas.Bool.{eqb-false}
 use Rattle.std.proofs.Math.Dec.{T}
 use Rattle.std.proofs.Math.ListN.{length, length-map}
 use Rattle.definitions.specs.Limits.{CaseLimits}
-use Rattle.definitions.specs.Lists.{if◌then◌else◌, is_some, all, filter, below, up_to, is_in, sum}
+use Rattle.definitions.specs.Lists.{is_some, all, filter, below, up_to, is_in, sum}
 use Rattle.definitions.specs.Refusal.{Result, refused, accepted, ready_numbers}
 use Rattle.definitions.specs.Sheet.Relations.{Tuple, is_among}
 use Rattle.definitions.specs.Problem.Truth.{Case, holds, members_of, are_picks}

@@ -1,7 +1,7 @@
 -- "Its atoms at elements outside the type are never true": whatever steps are taken, no atom of a `forall` at an element outside its
 -- variable's range ever holds.
 use Prim.Native.Nat.{ℕ, zero, suc, ◌+◌, ◌*◌, ◌%◌, ◌<◌}
-use Rattle.std.specs.Prelude.{◌≡◌, Bool, ◌&&◌, ◌||◌, eqb, ltb, length}
+use Rattle.std.specs.Prelude.{◌≡◌, Bool, ◌&&◌, ◌||◌, eqb, ltb, length, if◌then◌else◌}
 use Rattle.std.proofs.Math.Path.{refl, sym, ap, ap₂}
 use Rattle.std.proofs.Common.{subst, subst₂, ◌∙◌, arith}
 use Rattle.std.proofs.Math.Logic.{⊎_elim}
@@ -11,7 +11,7 @@ use mathlib.Core.List.Memᴰ
 use mathlib.Core.List.{List, [], ◌∷◌, map, Memᴰ}
 use Rattle.std.proofs.Math.Arith.{digits_lt, digits_mod}
 use borrow.Author.Tests.{ne_eqb}
-use Rattle.definitions.specs.Lists.{if◌then◌else◌, any, option}
+use Rattle.definitions.specs.Lists.{any, option}
 use Rattle.definitions.specs.Refusal.{refused}
 use Rattle.definitions.specs.Sheet.Sheets.{every_number}
 use Rattle.definitions.specs.Problem.Truth.{Case, members_of}

@@ -1,7 +1,7 @@
 -- What strict readers of PDDL ask for: every predicate that is used is declared, with as many places; every object that an action names is a
 -- constant of the domain; every object is declared once.
 use Prim.Native.Nat.{ℕ, zero, suc, ◌+◌, ◌-◌, ◌<◌, ◌≤◌}
-use Rattle.std.specs.Prelude.{◌≡◌, Bool, get_or}
+use Rattle.std.specs.Prelude.{◌≡◌, Bool, get_or, if◌then◌else◌}
 use Rattle.std.proofs.Math.Path.{refl, sym, ap, subst}
 use Rattle.std.proofs.Common.{◌∙◌, length-append}
 use Rattle.std.proofs.Math.Logic.{⊎_elim}
@@ -14,7 +14,7 @@ use Rattle.std.proofs.Math.Numerals.{add-one}
 use Rattle.std.proofs.Math.Dec.{T, eqb}
 use borrow.Author.Tests.{eqb-true, eqb-false}
 use Rattle.std.proofs.Math.ListN.{length, length-map}
-use Rattle.definitions.specs.Lists.{if◌then◌else◌, option, position, flat_map, map_from, from, below, filter, all}
+use Rattle.definitions.specs.Lists.{option, position, flat_map, map_from, from, below, filter, all}
 use Rattle.definitions.specs.Sheet.Relations.{Relation, is_function, is_injective, built_in}
 use Rattle.definitions.specs.Sheet.Sheets.{relations, relations_of}
 use Rattle.definitions.specs.Problem.Truth.{Case, holds}

@@ -1,6 +1,6 @@
 -- What PDDL makes of a written domain, instance and plan: the task with the case's actions, objects and facts, word by word.
 use Prim.Native.Nat.{ℕ, ◌-◌, ◌<◌}
-use Rattle.std.specs.Prelude.{◌≡◌, Bool, ◌&&◌, ◌||◌, eqb, length}
+use Rattle.std.specs.Prelude.{◌≡◌, Bool, ◌&&◌, ◌||◌, eqb, length, if◌then◌else◌}
 use Rattle.std.proofs.Math.Path.{refl, sym, ap, ap₂, subst}
 use Rattle.std.proofs.Common.{◌∙◌, ⊎_elim, arith, eqb→eq, ltb-true, ltb-false}
 use Rattle.std.proofs.Math.Bool.{true, false, not}
@@ -8,7 +8,7 @@ use Rattle.std.proofs.Math.Option.{Option, some}
 use mathlib.Core.List.{List, [], ◌∷◌, ◌++◌, map, map-append, append_assoc, append-nil}
 use Rattle.std.proofs.Math.Dec.{T, ltb, not_T}
 use Rattle.std.proofs.Math.ListN.{get_or, get_or-eq_default}
-use Rattle.definitions.specs.Lists.{if◌then◌else◌, all, filter, option, flat_map, find, same, from, below, is_empty}
+use Rattle.definitions.specs.Lists.{all, filter, option, flat_map, find, same, from, below, is_empty}
 use Rattle.definitions.specs.Sheet.Text.{bytes, is_between, is_capital, is_small, is_digit, decimal}
 use Rattle.definitions.specs.Sheet.Relations.{Relation}
 use Rattle.definitions.specs.Sheet.Sheets.{relations_of}

@@ -1,6 +1,6 @@
 -- The lines of a plan: what is written for steps is read back as these steps, and letters may be capitals or small.
 use Prim.Native.Nat.{ℕ, zero, suc, ◌+◌, ◌<◌, ◌≤◌}
-use Rattle.std.specs.Prelude.{◌≡◌, ◌⊎◌, Bool, not, ◌&&◌, ◌||◌, leb, get_or, take}
+use Rattle.std.specs.Prelude.{◌≡◌, ◌⊎◌, Bool, not, ◌&&◌, ◌||◌, leb, get_or, take, if◌then◌else◌}
 use Rattle.std.proofs.Math.Path.{refl, ap, ap₂, subst}
 use Rattle.std.proofs.Common.{sym, ◌∙◌, inl, inr, arith, leb→le, eqb→eq, T_not, take_at, get_or-append-add}
 use Rattle.std.proofs.Math.Logic.{⊎_elim}
@@ -14,7 +14,7 @@ use Rattle.std.proofs.lemmas.List.{length-map}
 use Rattle.std.proofs.Math.Seq.{get_or-append_seam}
 use borrow.Author.Tests.{eq-eqb, lt-ltb, le-leb, lt-leb}
 use Rattle.definitions.specs.Limits.{text_limit}
-use Rattle.definitions.specs.Lists.{if◌then◌else◌, all, same, option, flat_map, find, is_empty}
+use Rattle.definitions.specs.Lists.{all, same, option, flat_map, find, is_empty}
 use Rattle.definitions.specs.Sheet.Text.{bytes, on_first, split, Line, lines_from, lines, is_between, is_capital, is_small, is_digit, is_relation_name, decimal, decimal_in}
 use Rattle.definitions.specs.Refusal.{Result, refused, accepted, ◌>>=◌, given, refuse_if, read_lines, read_text}
 use Rattle.definitions.specs.Sheet.Formula.{write_each}

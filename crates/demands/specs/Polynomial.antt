@@ -1,11 +1,11 @@
 -- The bound as a polynomial in the number of elements: its terms are fixed by the question alone, and no exponent is above 4.
-use Rattle.std.specs.Prelude.{ℕ, zero, suc, ◌+◌, ◌*◌, ◌^◌, ◌<◌, ◌≤◌, ◌≡◌, refl, Bool, true, false, eqb, length}
+use Rattle.std.specs.Prelude.{ℕ, zero, suc, ◌+◌, ◌*◌, ◌^◌, ◌<◌, ◌≤◌, ◌≡◌, refl, Bool, true, false, eqb, length, if◌then◌else◌}
 use Rattle.std.proofs.Common.{ap, ap₂, ◌∙◌, arith, pow-suc, one-mul, eq-eqb}
 use Rattle.std.proofs.Math.Option.{Option, none}
 use mathlib.Core.List.Memᴰ
 use mathlib.Core.List.{List, [], ◌∷◌, ◌++◌, map, Memᴰ}
 use Rattle.std.proofs.Math.Nat.{pow-zero}
-use Rattle.definitions.specs.Lists.{if◌then◌else◌, option, flat_map, map_from, below, sum}
+use Rattle.definitions.specs.Lists.{option, flat_map, map_from, below, sum}
 use Rattle.definitions.specs.Sheet.Relations.{Relation, is_chosen, is_function}
 use Rattle.definitions.specs.Sheet.Sheets.{relations_of}
 use Rattle.definitions.specs.Problem.Truth.{Case, every_tuples, values}

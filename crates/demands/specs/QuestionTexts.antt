@@ -1,6 +1,6 @@
 -- Which texts are read as a question: those that line by line spell its `rel`, `type` and `choose` lines, its `every` line and its rule, in this order.
 use Prim.Native.Nat.{ℕ, zero, suc, ◌+◌, ◌-◌, ◌<◌, ◌≤◌}
-use Rattle.std.specs.Prelude.{◌≡◌, ◌⊎◌, ◌↔◌, Bool, not, ◌&&◌, ◌||◌, ltb}
+use Rattle.std.specs.Prelude.{◌≡◌, ◌⊎◌, ◌↔◌, Bool, not, ◌&&◌, ◌||◌, ltb, if◌then◌else◌}
 use Rattle.std.proofs.Math.Path.{refl, sym, ap, subst}
 use Rattle.std.proofs.Common.{ap₂, subst₂, ◌∙◌, inl, inr, arith, T_not}
 use Rattle.std.proofs.Math.Logic.{⊎_elim}
@@ -11,7 +11,7 @@ use Rattle.std.proofs.Math.Dec.{T, not_T, leb, eqb, leb→le, le→leb, eqb→eq
 use Rattle.std.proofs.Math.ListN.{length, length-append, get_or, get_or-append}
 use borrow.Author.Tests.{not-false, leb-false, le-leb, lt-leb, le-ltb, ltb-false}
 use Rattle.definitions.specs.Limits.{CaseLimits, text_limit, rel_limit, type_limit, choose_limit, bracket_limit, form_limit, nesting_limit}
-use Rattle.definitions.specs.Lists.{if◌then◌else◌, all, any, same, is_empty, option, is_some, listed}
+use Rattle.definitions.specs.Lists.{all, any, same, is_empty, option, is_some, listed}
 use Rattle.definitions.specs.Sheet.Text.{bytes, decimal, number, split, lines, lines_from, is_between, is_digit, is_small, is_relation_name, is_variable}
 use Rattle.definitions.specs.Refusal.{Result, accepted, ◌>>=◌, refuse_if, given, read_lines, read_text}
 use Rattle.definitions.specs.Sheet.Relations.{Kind, static, plain, Fun, PFun, Inj, PInj, universal, Relation, fixed, varying, is_function, built_in, is_declared}

@@ -1,6 +1,6 @@
 -- A plan that is read, from whoever: but for letters it is what is written for the steps that it is read as.
 use Prim.Native.Nat.{ℕ, zero, suc, ◌/◌, ◌%◌, ◌^◌, ◌<◌, ◌≤◌}
-use Rattle.std.specs.Prelude.{◌≡◌, Bool, true, false, eqb, ltb, take}
+use Rattle.std.specs.Prelude.{◌≡◌, Bool, true, false, eqb, ltb, take, if◌then◌else◌}
 use Rattle.std.proofs.Math.Path.{refl, sym, ap, ap₂, subst}
 use Rattle.std.proofs.Common.{◌∙◌, arith, mod-lt}
 use Rattle.std.proofs.Math.Option.{Option, none, some}
@@ -8,7 +8,7 @@ use mathlib.Core.List.{List, [], ◌∷◌, ◌++◌, map, map-append, append-ni
 use Rattle.std.proofs.Math.Dec.{T}
 use Rattle.std.proofs.Math.ListN.{length, get_or}
 use borrow.Author.Tests.{eqb-true, ltb-true}
-use Rattle.definitions.specs.Lists.{if◌then◌else◌, all, same, option, flat_map, find}
+use Rattle.definitions.specs.Lists.{all, same, option, flat_map, find}
 use Rattle.definitions.specs.Sheet.Text.{split, is_between, is_capital, number, decimal}
 use Rattle.definitions.specs.Refusal.{accepted, ◌>>=◌, given}
 use Rattle.definitions.specs.Sheet.Formula.{write_each}

@@ -1,9 +1,9 @@
 -- Where the limits of texts and of lent steps lie: one byte or one step more is 1, and nothing the desk program reads comes near; how
 -- many picks it can print.
-use Rattle.std.specs.Prelude.{ℕ, zero, suc, ◌*◌, ◌<◌, ◌≤◌, ◌≡◌, refl, Bool, true, false, List, [], ◌∷◌, map, ltb, length, take, drop}
+use Rattle.std.specs.Prelude.{ℕ, zero, suc, ◌*◌, ◌<◌, ◌≤◌, ◌≡◌, refl, Bool, true, false, List, [], ◌∷◌, map, ltb, length, take, drop, if◌then◌else◌}
 use Rattle.std.proofs.Common.{sym, subst, arith, le-ltb, lt-ltb, ltb-false}
 use Rattle.definitions.specs.Limits.{early, text_limit, step_limit, desk_bytes, desk_steps, desk_words}
-use Rattle.definitions.specs.Lists.{if◌then◌else◌, sum}
+use Rattle.definitions.specs.Lists.{sum}
 use Rattle.definitions.specs.Sheet.Text.{Line, lines}
 use Rattle.definitions.specs.Refusal.{Result, refused, accepted, ◌>>=◌, refuse_if, read_lines, read_text}
 use Rattle.definitions.specs.Sheet.Sheets.{read_steps}

@@ -1,6 +1,6 @@
 -- Which texts are read as a site: those that line by line spell its size, its labels, its members and its facts, in this order.
 use Prim.Native.Nat.{ℕ, zero, suc, ◌+◌, ◌-◌, ◌<◌, ◌≤◌}
-use Rattle.std.specs.Prelude.{◌≡◌, Bool, ◌&&◌, ◌||◌, T, eqb, leb, ltb}
+use Rattle.std.specs.Prelude.{◌≡◌, Bool, ◌&&◌, ◌||◌, T, eqb, leb, ltb, if◌then◌else◌}
 use Rattle.std.proofs.Math.Path.{refl, sym, ap, subst, subst₂}
 use Rattle.std.proofs.Common.{ap₂, ◌∙◌, inl, inr, ⊎_elim, arith, T_not, eqb→eq}
 use Rattle.std.proofs.Math.Bool.{true, false, not}
@@ -10,7 +10,7 @@ use Rattle.std.proofs.Math.Dec.{leb→le, eqb_refl}
 use Rattle.std.proofs.Math.ListN.{length, get_or}
 use borrow.Author.Tests.{not-false, ltb-false}
 use Rattle.definitions.specs.Limits.{CaseLimits, text_limit}
-use Rattle.definitions.specs.Lists.{if◌then◌else◌, all, any, same, is_empty, option, position, below}
+use Rattle.definitions.specs.Lists.{all, any, same, is_empty, option, position, below}
 use Rattle.definitions.specs.Sheet.Text.{bytes, decimal, number, split, lines, is_between, is_relation_name}
 use Rattle.definitions.specs.Refusal.{accepted, ◌>>=◌, refuse_if, given, read_text}
 use Rattle.definitions.specs.Sheet.Relations.{Relation, Tuple}

@@ -1,13 +1,13 @@
 -- The states of a run: beyond the last atom nothing ever holds, so a state's words have no other bits set than its atoms'.
 use Prim.Native.Nat.{ℕ, zero, suc, ◌≤◌}
-use Rattle.std.specs.Prelude.{◌≡◌, Bool, ◌&&◌, ◌||◌, eqb}
+use Rattle.std.specs.Prelude.{◌≡◌, Bool, ◌&&◌, ◌||◌, eqb, if◌then◌else◌}
 use Rattle.std.proofs.Math.Path.{refl, ap₂}
 use Rattle.std.proofs.Math.Bool.{true, false, not}
 use Rattle.std.proofs.Math.Option.{Option, none, some}
 use mathlib.Core.List.{List, [], ◌∷◌, map}
 use Rattle.std.proofs.Common.{arith}
 use borrow.Author.Tests.{ne_eqb}
-use Rattle.definitions.specs.Lists.{if◌then◌else◌, any, option}
+use Rattle.definitions.specs.Lists.{any, option}
 use Rattle.definitions.specs.Refusal.{refused}
 use Rattle.definitions.specs.Problem.Atoms.{Problem, atom_blocks, atoms, atom_number, State, initial}
 use Rattle.definitions.specs.Problem.Actions.{Action, action_at, adds, removes}

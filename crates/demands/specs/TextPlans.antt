@@ -1,7 +1,7 @@
 -- The texts themselves: steps reach the goal exactly if the text that is written for them is a plan of the written domain and instance, by
 -- PDDL's own meaning.
 use Prim.Native.Nat.{ℕ, zero, suc, ◌+◌, ◌-◌, ◌<◌, ◌≤◌}
-use Rattle.std.specs.Prelude.{◌≡◌, ◌⊎◌, Bool, get_or, take, drop}
+use Rattle.std.specs.Prelude.{◌≡◌, ◌⊎◌, Bool, get_or, take, drop, if◌then◌else◌}
 use Rattle.std.proofs.Math.Path.{refl, sym, ap, ap₂, subst}
 use Rattle.std.proofs.Common.{◌∙◌, inl, inr, eqb→eq}
 use Rattle.std.proofs.Math.Logic.{⊎_elim}
@@ -14,7 +14,7 @@ use Rattle.std.proofs.Math.Dec.{T, eqb, ltb, eqb_refl}
 use Rattle.std.proofs.Math.ListN.{length, get_or-eq_default}
 use Rattle.std.proofs.lemmas.List.{length-map}
 use borrow.Author.Tests.{eq-eqb, eqb-true, eqb-false, ltb-true, ltb-false}
-use Rattle.definitions.specs.Lists.{if◌then◌else◌, all, any, filter, same, option, position, find, map_from, from, below}
+use Rattle.definitions.specs.Lists.{all, any, filter, same, option, position, find, map_from, from, below}
 use Rattle.definitions.specs.Sheet.Text.{is_between, is_capital, number}
 use Rattle.definitions.specs.Refusal.{accepted}
 use Rattle.definitions.specs.Sheet.Relations.{Relation, is_function, is_injective}

@@ -1,6 +1,6 @@
 -- Many step lists of one case: each gets what a check of it alone gives, and the call keeps what it is lent.
 use Prim.Native.Nat.{ℕ, zero, suc, ◌+◌, ◌≤◌, ◌<◌}
-use Rattle.std.specs.Prelude.{◌≡◌, ◌↔◌, Bool, true, drop}
+use Rattle.std.specs.Prelude.{◌≡◌, ◌↔◌, Bool, true, drop, if◌then◌else◌}
 use Rattle.std.proofs.Math.Path.{refl, sym, ap}
 use Rattle.std.proofs.Common.{subst, ◌∙◌, arith, length-drop, length-take-le}
 use Rattle.std.proofs.Math.Bool.{false}
@@ -9,7 +9,7 @@ use Rattle.std.proofs.Math.Dec.{ltb}
 use Rattle.std.proofs.Math.ListN.{length, take}
 use borrow.Author.Tests.{lt-ltb, le-ltb, ltb-false}
 use Rattle.definitions.specs.Limits.{CaseLimits, step_limit}
-use Rattle.definitions.specs.Lists.{if◌then◌else◌, any, is_in}
+use Rattle.definitions.specs.Lists.{any, is_in}
 use Rattle.definitions.specs.Refusal.{Result, refused, accepted, ◌>>=◌, refuse_if, ready_numbers, run_numbers}
 use Rattle.definitions.specs.Problem.Atoms.{Problem, initial, state_words}
 use Rattle.definitions.specs.Problem.Strips.{run, reaches_goal}

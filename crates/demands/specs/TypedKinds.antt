@@ -1,5 +1,5 @@
 -- Kinds with types: what it means that picks are of them, which tuples have a set action, and how many a relation has.
-use Rattle.std.specs.Prelude.{ℕ, zero, suc, ◌+◌, ◌*◌, ◌/◌, ◌%◌, ◌<◌, ◌≡◌, ◌↔◌}
+use Rattle.std.specs.Prelude.{ℕ, zero, suc, ◌+◌, ◌*◌, ◌/◌, ◌%◌, ◌<◌, ◌≡◌, ◌↔◌, if◌then◌else◌}
 use Rattle.std.proofs.Math.Path.{refl, subst}
 use Rattle.std.proofs.Common.{sym, ap, ◌∙◌}
 use Rattle.std.proofs.Math.Bool.{true, not}
@@ -9,7 +9,7 @@ use native.Mathlib.Omega.{arith}
 use Rattle.std.proofs.Math.Dec.{T}
 use Rattle.std.proofs.Math.ListN.{length, get_or}
 use borrow.Author.Tests.{not-false}
-use Rattle.definitions.specs.Lists.{if◌then◌else◌, map_from}
+use Rattle.definitions.specs.Lists.{map_from}
 use Rattle.definitions.specs.Sheet.Relations.{Relation, Tuple, is_chosen, is_function}
 use Rattle.definitions.specs.Sheet.Sheets.{first_chosen}
 use Rattle.definitions.specs.Problem.Truth.{Case, members_of, each_chosen, is_of_kind, are_of_kinds, first_of_other_kind}

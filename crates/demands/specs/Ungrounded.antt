@@ -1,7 +1,7 @@
 -- An accepted case without a `type` line and without an `every` line, unground and grounded: steps reach the goal exactly if the plan that is written for them is one under
 -- the unground domain.
 use Prim.Native.Nat.{ℕ, zero, suc, ◌+◌, ◌-◌, ◌*◌, ◌/◌, ◌%◌, ◌^◌, ◌<◌}
-use Rattle.std.specs.Prelude.{◌≡◌, ◌⊎◌, Bool, drop}
+use Rattle.std.specs.Prelude.{◌≡◌, ◌⊎◌, Bool, drop, if◌then◌else◌}
 use Rattle.std.proofs.Math.Path.{refl, sym, ap, ap₂, subst}
 use Rattle.std.proofs.Common.{◌∙◌, inl, inr, eqb→eq}
 use Rattle.std.proofs.Math.Logic.{⊎_elim}
@@ -15,7 +15,7 @@ use Rattle.std.proofs.Math.Dec.{T, eqb, ltb, eqb_refl}
 use Rattle.std.proofs.Math.ListN.{length, get_or, take, length-append}
 use Rattle.std.proofs.Math.Seq.{get_or-append_seam, get_or-append-add}
 use borrow.Author.Tests.{eq-eqb}
-use Rattle.definitions.specs.Lists.{if◌then◌else◌, all, any, filter, option, find, map_from, from, below, before}
+use Rattle.definitions.specs.Lists.{all, any, filter, option, find, map_from, from, below, before}
 use Rattle.definitions.specs.Refusal.{accepted, given}
 use Rattle.definitions.specs.Sheet.Relations.{Relation, is_function, is_injective, built_in, built_in_holds}
 use Rattle.definitions.specs.Sheet.Sheets.{relations, relations_of}

@@ -2,7 +2,7 @@
 // and of an input that was not read to its end nothing is said on standard output.
 #![tactic(auto)]
 
-ghost use Rattle.std.specs.Prelude.{◌≤◌, length, IfOk};
+ghost use Rattle.std.specs.Prelude.{◌≡◌, ◌≤◌, length, IfOk, OnErr};
 ghost use Rattle.io.specs.Counts.{IsPrefixLen};
 
 use std::io;
@@ -14,7 +14,8 @@ const INPUT: usize = 16385;
 // One read, to the bytes from `at` on: how many bytes are in then.
 fn read_more(from: &mut Stdin, input: &mut [u8], at: usize) -> io::Result<usize>
     requires { at ≤ length input.old }
-    ensures { IfOk result (λ count. (at ≤ count) × (count ≤ length input.old)) }
+    ensures ok { IfOk result (λ count. (at ≤ count) × (count ≤ length input.old)) }
+    ensures err { OnErr result (length input.new ≡ length input.old) }
 {
     let rest = &mut input[at..];
     let more = from.read(rest)?;
@@ -23,7 +24,8 @@ fn read_more(from: &mut Stdin, input: &mut [u8], at: usize) -> io::Result<usize>
 
 // Reads until the input ends, there is no room left or a read fails.
 fn read_input(from: &mut Stdin, input: &mut [u8]) -> io::Result<usize>
-    ensures { IfOk result (λ count. IsPrefixLen count input.new) }
+    ensures ok { IfOk result (λ count. IsPrefixLen count input.new) }
+    ensures err { OnErr result (length input.new ≡ length input.old) }
 {
     let mut at = 0;
     while at < input.len() {

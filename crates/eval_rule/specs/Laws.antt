@@ -1,5 +1,5 @@
 -- A node's truth as a search that may be left early.
-use Rattle.std.specs.Prelude.{◌≡◌, Bool, false, not, ◌||◌, List, [], ◌∷◌, map, ℕ, zero, suc, ◌+◌, ◌-◌, ◌*◌, ◌/◌, ◌%◌, ◌^◌, ◌≤◌, ◌<◌, eqb, ltb, length, set}
+use Rattle.std.specs.Prelude.{◌≡◌, Bool, false, not, ◌||◌, List, [], ◌∷◌, map, ℕ, zero, suc, ◌+◌, ◌-◌, ◌*◌, ◌/◌, ◌%◌, ◌^◌, ◌≤◌, ◌<◌, eqb, ltb, length, set, if◌then◌else◌}
 use Rattle.std.proofs.Math.Path.{refl, sym, ap, fun_ext}
 use Rattle.std.proofs.Common.{ap₂, subst, ◌∙◌, add-zero, zero-add, div-le_self}
 use Rattle.std.proofs.Math.Bool.{true}
@@ -9,7 +9,7 @@ use Rattle.std.proofs.Math.Nat.{mod-le}
 use Rattle.std.proofs.Math.Decide.{dec_lt}
 use borrow.Author.Tests.{lt-ltb, le-ltb, ne_eqb, eqb-true, ltb-true, ltb-false}
 use Rattle.std.proofs.Math.ListN.{get_or}
-use Rattle.definitions.specs.Lists.{if◌then◌else◌, any, from, below}
+use Rattle.definitions.specs.Lists.{any, from, below}
 use Rattle.definitions.specs.Sheet.Relations.{built_in_holds}
 use Rattle.definitions.specs.Problem.Tree.{Tree, Part}
 use Rattle.definitions.specs.Problem.Actions.{Values, with_value}

@@ -1,6 +1,6 @@
 -- The lines of nodes and parts, and what is read off them.
-use Rattle.std.specs.Prelude.{◌≡◌, Bool, true, false, not, List, [], ◌∷◌, ℕ, ◌+◌, ◌-◌, ◌*◌, ◌/◌, ◌%◌, ◌^◌, ◌≤◌, ◌<◌, eqb, ltb, length, get_or}
-use Rattle.definitions.specs.Lists.{if◌then◌else◌, any, below}
+use Rattle.std.specs.Prelude.{◌≡◌, Bool, true, false, not, List, [], ◌∷◌, ℕ, ◌+◌, ◌-◌, ◌*◌, ◌/◌, ◌%◌, ◌^◌, ◌≤◌, ◌<◌, eqb, ltb, length, get_or, if◌then◌else◌}
+use Rattle.definitions.specs.Lists.{any, below}
 use Rattle.definitions.specs.Sheet.Relations.{built_in_holds}
 use Rattle.definitions.specs.Problem.Actions.{Values, with_value}
 use Rattle.bits.specs.Table.{digit, bit}

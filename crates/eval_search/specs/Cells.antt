@@ -1,6 +1,6 @@
 -- Which digit of a number is a cell's: cells are counted through the `choose` relations, the last one's is the lowest.
 use Prim.Native.Nat.{ℕ, zero, suc, ◌+◌, ◌-◌, ◌/◌, ◌%◌, ◌^◌, ◌<◌, ◌≤◌}
-use Rattle.std.specs.Prelude.{◌≡◌, Bool, T, eqb, get_or}
+use Rattle.std.specs.Prelude.{◌≡◌, Bool, T, eqb, get_or, if◌then◌else◌}
 use Rattle.std.proofs.Math.Path.{refl, sym, ap}
 use Rattle.std.proofs.Common.{subst, ◌∙◌, ⊎_elim, zero-add, get_or-append-add}
 use Rattle.std.proofs.Math.Bool.{true, false}
@@ -10,7 +10,7 @@ use native.Mathlib.Omega.{arith}
 use borrow.Author.Tests.{eqb-true, eqb-false, ltb-true, ltb-false}
 use Rattle.std.proofs.Math.Dec.{ltb}
 use Rattle.std.proofs.Math.ListN.{length, length-append, length-map, get_or-append}
-use Rattle.definitions.specs.Lists.{if◌then◌else◌, filter, flat_map, from, below}
+use Rattle.definitions.specs.Lists.{filter, flat_map, from, below}
 use Rattle.definitions.specs.Sheet.Relations.{Tuple, is_among, is_chosen}
 use Rattle.definitions.specs.Problem.Atoms.{Problem, relation_at, tuples_of}
 use Rattle.definitions.specs.Problem.Built.{chosen_numbers, is_picked}

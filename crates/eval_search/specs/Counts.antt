@@ -1,6 +1,6 @@
 -- Cells and words of picks, counted through the relations of a table, and the words of a number's picks.
 use Prim.Native.Nat.{ℕ, zero, suc, ◌+◌, ◌-◌, ◌*◌, ◌/◌, ◌%◌, ◌^◌, ◌<◌, ◌≤◌}
-use Rattle.std.specs.Prelude.{◌≡◌, Bool, ◌&&◌, length, set}
+use Rattle.std.specs.Prelude.{◌≡◌, Bool, ◌&&◌, length, set, if◌then◌else◌}
 use Rattle.std.proofs.Math.Path.{refl, sym, ap, ap₂, fun_ext}
 use Rattle.std.proofs.Common.{subst, ◌∙◌, add-zero, ltb-true, ltb-false, pow_mono}
 use Rattle.std.proofs.Math.Bool.{true, false}
@@ -11,7 +11,6 @@ use Rattle.std.proofs.Math.Nat.{zero-add}
 use Rattle.std.proofs.Math.Dec.{ltb}
 use Rattle.std.proofs.Math.ListN.{take}
 use Rattle.std.proofs.Math.Seq.{take-set-le, take-suc-set}
-use Rattle.definitions.specs.Lists.{if◌then◌else◌}
 use Rattle.definitions.specs.Problem.Atoms.{words_for}
 use Rattle.bits.specs.Table.{digit, word, words, num}
 use Rattle.bits.proofs.Digit.{digit_ext, digit_word, word_lt, num_mod}

@@ -1,5 +1,5 @@
 -- The search step by step: where it stands, what is known there, and what each step adds.
-use Rattle.std.specs.Prelude.{ℕ, zero, suc, ◌+◌, ◌-◌, ◌*◌, ◌/◌, ◌%◌, ◌^◌, ◌<◌, ◌≤◌, refl, Bool, List, [], ◌∷◌, ltb, length, get_or, set}
+use Rattle.std.specs.Prelude.{ℕ, zero, suc, ◌+◌, ◌-◌, ◌*◌, ◌/◌, ◌%◌, ◌^◌, ◌<◌, ◌≤◌, refl, Bool, List, [], ◌∷◌, ltb, length, get_or, set, if◌then◌else◌}
 use Rattle.std.proofs.Math.Path.{◌≡◌, sym, ap, ap₂}
 use Rattle.std.proofs.Common.{subst, ◌∙◌, arith, pow-suc, div-one, mul_assoc, mul_comm, add-mul, div-add-mod', mod-lt, mul-le-mul, mul-le-mul_right, pow_pos, pow_mono, pow-add, get_or-set_same, get_or-set_other, lt-ltb, ltb-true, ltb-false}
 use Rattle.std.proofs.Math.Bool.{true, false, ◌&&◌}
@@ -7,7 +7,6 @@ use Rattle.std.proofs.Math.Option.{Option, none, some}
 use Rattle.std.proofs.Math.Decide.{ℕ_discrete}
 use Rattle.std.proofs.Math.Nat.{pow-zero, div-div-eq-div-mul}
 use Rattle.std.proofs.Math.Arith.{digits_div}
-use Rattle.definitions.specs.Lists.{if◌then◌else◌}
 use Rattle.definitions.specs.Sheet.Relations.{Tuple}
 use Rattle.definitions.specs.Problem.Truth.{Case, are_of_kinds, rule_is_true}
 use Rattle.definitions.specs.Problem.Atoms.{problem_of}

@@ -1,12 +1,12 @@
 -- What the words say of a case: those of sixty-four lanes the picks that may and that must be, those of a number its picks.
 use Prim.Native.Nat.{ℕ, zero, suc, ◌+◌, ◌-◌, ◌*◌, ◌/◌, ◌<◌, ◌≤◌}
-use Rattle.std.specs.Prelude.{◌≡◌, Bool, not, ◌&&◌, length, get_or, take}
+use Rattle.std.specs.Prelude.{◌≡◌, Bool, not, ◌&&◌, length, get_or, take, if◌then◌else◌}
 use Rattle.std.proofs.Math.Path.{refl, sym, ap, ap₂, fun_ext}
 use Rattle.std.proofs.Common.{subst, ◌∙◌, arith, ltb-true}
 use Rattle.std.proofs.Math.Bool.{true, false}
 use mathlib.Core.List.{List, [], ◌∷◌, ◌++◌, append-nil, append_assoc}
 use Rattle.std.proofs.Math.Dec.{T, ltb}
-use Rattle.definitions.specs.Lists.{if◌then◌else◌, filter, flat_map, from, below}
+use Rattle.definitions.specs.Lists.{filter, flat_map, from, below}
 use Rattle.definitions.specs.Sheet.Relations.{Tuple, is_chosen}
 use Rattle.definitions.specs.Problem.Atoms.{Problem, relation_at, tuples_of, words_for}
 use Rattle.definitions.specs.Problem.Built.{chosen_numbers, is_picked}

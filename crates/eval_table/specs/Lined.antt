@@ -1,6 +1,6 @@
 -- The numbers of each line, by the relations and the node table.
-use Rattle.std.specs.Prelude.{◌≡◌, List, [], ◌∷◌, ℕ, zero, suc, ◌+◌, ◌-◌, ◌*◌, ◌^◌, ◌≤◌, ◌<◌, eqb, ltb, length, get_or, take}
-use Rattle.definitions.specs.Lists.{if◌then◌else◌, any}
+use Rattle.std.specs.Prelude.{◌≡◌, List, [], ◌∷◌, ℕ, zero, suc, ◌+◌, ◌-◌, ◌*◌, ◌^◌, ◌≤◌, ◌<◌, eqb, ltb, length, get_or, take, if◌then◌else◌}
+use Rattle.definitions.specs.Lists.{any}
 use Rattle.definitions.specs.Problem.Atoms.{words_for}
 use Rattle.rule_nodes.specs.Tables.{no_part, no_node}
 use Rattle.rule_nodes.specs.declared.PartRow.{PartRow}

@@ -1,5 +1,5 @@
 -- A literal by its bit among the facts or the picks, by its digit of the `every` relation's value, or by its row.
-use Rattle.std.specs.Prelude.{◌≡◌, Bool, true, false, ◌||◌, length, get_or}
+use Rattle.std.specs.Prelude.{◌≡◌, Bool, true, false, ◌||◌, length, get_or, if◌then◌else◌}
 use Rattle.std.proofs.Math.Path.{refl, sym, ap, ap₂, subst, subst₂}
 use Rattle.std.proofs.Common.{◌∙◌, arith, zero-add, mul-one, ltb-true, ltb-false}
 use Rattle.std.proofs.Math.Bool.{or-false}
@@ -7,7 +7,6 @@ use mathlib.Core.List.{List, [], ◌∷◌, ◌++◌}
 use Prim.Native.Nat.{ℕ, zero, suc, ◌+◌, ◌*◌, ◌/◌, ◌%◌, ◌^◌, ◌≤◌, ◌<◌}
 use Rattle.std.proofs.Math.Nat.{pow-zero, add-sub_cancel_left}
 use Rattle.std.proofs.Math.Dec.{T, ltb}
-use Rattle.definitions.specs.Lists.{if◌then◌else◌}
 use Rattle.definitions.specs.Sheet.Relations.{Kind, static, plain, Fun, PFun, Inj, PInj, universal, Relation, Tuple, same_tuple, is_among, is_chosen, is_universal, built_in_holds}
 use Rattle.definitions.specs.Sheet.Sheets.{every_number}
 use Rattle.definitions.specs.Problem.Truth.{Case, holds, are_picks, every_tuples, is_odd, digit, every_value}

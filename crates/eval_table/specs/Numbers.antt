@@ -1,12 +1,12 @@
 -- The numbers of lines as lists, and the laws of what writes them.
-use Rattle.std.specs.Prelude.{◌≡◌, Bool, ◌||◌, List, [], ◌∷◌, ℕ, zero, suc, ◌+◌, ◌-◌, ◌*◌, ◌/◌, ◌^◌, ◌≤◌, ◌<◌, eqb, ltb, length, get_or, take, set, replicate}
+use Rattle.std.specs.Prelude.{◌≡◌, Bool, ◌||◌, List, [], ◌∷◌, ℕ, zero, suc, ◌+◌, ◌-◌, ◌*◌, ◌/◌, ◌^◌, ◌≤◌, ◌<◌, eqb, ltb, length, get_or, take, set, replicate, if◌then◌else◌}
 use Rattle.std.proofs.Math.Path.{refl, ap}
 use Rattle.std.proofs.Common.{sym, ap₂, subst, ◌∙◌, add-one, get_or-set_same, get_or-set_other, zero-add}
 use Rattle.std.proofs.Math.Bool.{true, false}
 use native.Mathlib.Omega.{arith}
 use Rattle.std.proofs.Math.Decide.{dec_lt}
 use borrow.Author.Tests.{lt-ltb, le-ltb, eq-eqb, ne_eqb, ltb-true, ltb-false}
-use Rattle.definitions.specs.Lists.{if◌then◌else◌, any}
+use Rattle.definitions.specs.Lists.{any}
 use Rattle.definitions.specs.Problem.Atoms.{words_for, problem_of}
 use Rattle.definitions.specs.Problem.Truth.{Case}
 use Rattle.laws.specs.Reader.{Accepted}

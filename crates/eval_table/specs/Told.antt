@@ -1,5 +1,5 @@
 -- That the lines say what `eval_rule` asks.
-use Rattle.std.specs.Prelude.{◌≡◌, Bool, ◌||◌, take, drop}
+use Rattle.std.specs.Prelude.{◌≡◌, Bool, ◌||◌, take, drop, if◌then◌else◌}
 use Rattle.std.proofs.Math.Path.{refl, ap, ap₂, subst}
 use Rattle.std.proofs.Common.{sym, ◌∙◌, add-zero, get_or-drop}
 use Rattle.std.proofs.Math.Logic.{inl, inr}
@@ -13,7 +13,7 @@ use borrow.Author.Tests.{lt-ltb, le-ltb, eqb-true, ltb-true, ltb-false}
 use Rattle.std.proofs.Math.Dec.{T, eqb, ltb, ltb→lt}
 use Rattle.std.proofs.Math.ListN.{length, get_or}
 use Rattle.std.proofs.lemmas.List.{length-map}
-use Rattle.definitions.specs.Lists.{if◌then◌else◌, is_some, all, any, is_in, below}
+use Rattle.definitions.specs.Lists.{is_some, all, any, is_in, below}
 use Rattle.laws.specs.Booleans.{and_T, T_and_l, T_and_r, T_ext}
 use Rattle.laws.specs.Lists.{all_at, get_or_mem, mem_below, mem_filter, filter_mem}
 use Rattle.laws.specs.Members.{in_mem, mem_in, range_few}

@@ -1,6 +1,5 @@
 -- Words of sixty-four valuations: digit j is for valuation j.
-use Rattle.std.specs.Prelude.{◌≡◌, Bool, true, false, List, ℕ, ◌<◌, eqb, ltb, get_or}
-use Rattle.definitions.specs.Lists.{if◌then◌else◌}
+use Rattle.std.specs.Prelude.{◌≡◌, Bool, true, false, List, ℕ, ◌<◌, eqb, ltb, get_or, if◌then◌else◌}
 use Rattle.definitions.specs.Problem.Actions.{Values}
 use Rattle.bits.specs.Table.{digit}
 use Rattle.problem_table.specs.Lines.{part_number}

@@ -1,6 +1,6 @@
 -- Blocks number their items one after another: where each block starts, which item a number decodes to, and back.
 use Prim.Native.Nat.{ℕ, zero, suc, ◌+◌, ◌-◌, ◌<◌, ◌≤◌}
-use Rattle.std.specs.Prelude.{◌≡◌, ◌⊎◌, Bool, length, get_or, take}
+use Rattle.std.specs.Prelude.{◌≡◌, ◌⊎◌, Bool, length, get_or, take, if◌then◌else◌}
 use Rattle.std.proofs.Math.Path.{refl, sym, ap}
 use Rattle.std.proofs.Common.{ap₂, ◌∙◌, add-zero, zero-add, add_assoc}
 use Rattle.std.proofs.Math.Logic.{inl, inr, ⊎_elim}
@@ -10,7 +10,7 @@ use mathlib.Core.List.{List, [], ◌∷◌, ◌++◌}
 use native.Mathlib.Omega.{arith}
 use Rattle.std.proofs.Math.Dec.{ltb}
 use borrow.Author.Tests.{lt-ltb, le-ltb, ltb-true, ltb-false}
-use Rattle.definitions.specs.Lists.{if◌then◌else◌, flat_map, map_from}
+use Rattle.definitions.specs.Lists.{flat_map, map_from}
 use Rattle.definitions.specs.Problem.Atoms.{Block, item_at, count_of}
 use Rattle.laws.specs.Lists.{none_some, some_eq}
 

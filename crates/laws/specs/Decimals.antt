@@ -1,13 +1,13 @@
 -- Reading a number is the inverse of writing it: `number` takes exactly what `decimal` gives for numbers of at most 7 digits; and how long
 -- numbers are.
-use Rattle.std.specs.Prelude.{ℕ, zero, suc, ◌+◌, ◌-◌, ◌*◌, ◌/◌, ◌%◌, ◌^◌, ◌≤◌, ◌<◌, ◌≡◌, refl, Bool, true, false, not, ◌&&◌, List, [], ◌∷◌, ◌++◌, T, leb, length}
+use Rattle.std.specs.Prelude.{ℕ, zero, suc, ◌+◌, ◌-◌, ◌*◌, ◌/◌, ◌%◌, ◌^◌, ◌≤◌, ◌<◌, ◌≡◌, refl, Bool, true, false, not, ◌&&◌, List, [], ◌∷◌, ◌++◌, T, leb, length, if◌then◌else◌}
 use Rattle.std.proofs.Common.{sym, ap, ap₂, subst, ◌∙◌, append-nil, arith, pow-suc, zero-add, lt_of_lt_of_le, leb→le, length-append, le-leb, leb-true, leb-false, ne_eqb}
 use Rattle.std.proofs.Math.Option.{none, some}
 use Rattle.std.proofs.Math.Nat.{pow-zero, pow-le-pow_right}
 use Rattle.std.proofs.Math.Arith.{digits_div, digits_mod}
 use Rattle.std.proofs.Math.Seq.{append_snoc}
 use Rattle.std.proofs.lemmas.Bool.{lt-leb}
-use Rattle.definitions.specs.Lists.{if◌then◌else◌, all}
+use Rattle.definitions.specs.Lists.{all}
 use Rattle.definitions.specs.Sheet.Text.{is_between, is_digit, decimal_value, no_leading_zero, number, decimal_in, decimal}
 use Rattle.laws.specs.Booleans.{T_and_l, T_and_r, T_of, T_true, and_T, neq}
 use Rattle.laws.specs.Lists.{none_some, some_eq}

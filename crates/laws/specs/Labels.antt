@@ -1,11 +1,11 @@
 -- Labels of elements: that they are one to one, and what element fields mean by them.
-use Rattle.std.specs.Prelude.{ℕ, suc, ◌<◌, ◌≡◌, refl, ◌⊎◌, ◌↔◌, Bool, true, false, not, ◌||◌, T, eqb, ltb, length}
+use Rattle.std.specs.Prelude.{ℕ, suc, ◌<◌, ◌≡◌, refl, ◌⊎◌, ◌↔◌, Bool, true, false, not, ◌||◌, T, eqb, ltb, length, if◌then◌else◌}
 use Rattle.std.proofs.Common.{sym, ap, subst, ◌∙◌, inl, inr, ⊎_elim, eqb→eq, lt→ltb, T_not}
 use Rattle.std.proofs.Math.Option.{Option, none, some}
 use mathlib.Core.List.Memᴰ
 use mathlib.Core.List.{List, [], ◌∷◌, ◌++◌, map, Memᴰ}
 use Rattle.std.proofs.Math.Dec.{eqb_refl, not_T}
-use Rattle.definitions.specs.Lists.{if◌then◌else◌, all, same, is_empty, option}
+use Rattle.definitions.specs.Lists.{all, same, is_empty, option}
 use Rattle.definitions.specs.Sheet.Text.{is_relation_name}
 use Rattle.definitions.specs.Refusal.{refused, accepted, ◌>>=◌, refuse_if, given}
 use Rattle.definitions.specs.Sheet.Sheets.{Element, numbered, named, Label, element_named, name_of, element_of, elements_of, is_in_range, SiteDraft, is_taken, add_label}

@@ -1,12 +1,12 @@
 -- Lines and fields: a text of lines is cut into these lines, and a line of fields into these fields.
-use Rattle.std.specs.Prelude.{ℕ, ◌+◌, ◌≤◌, ◌<◌, ◌≡◌, Bool, true, false, not, ◌&&◌, ◌||◌, T, eqb, leb}
+use Rattle.std.specs.Prelude.{ℕ, ◌+◌, ◌≤◌, ◌<◌, ◌≡◌, Bool, true, false, not, ◌&&◌, ◌||◌, T, eqb, leb, if◌then◌else◌}
 use Rattle.std.proofs.Math.Path.{refl, ap}
 use Rattle.std.proofs.Common.{sym, ap₂, subst, ◌∙◌, ⊎_elim, arith, leb→le, eqb→eq, T_not, eq-eqb}
 use mathlib.Core.List.Memᴰ
 use mathlib.Core.List.{List, [], ◌∷◌, ◌++◌, append_assoc, Memᴰ}
 use Rattle.std.proofs.Math.Dec.{not_T}
 use Rattle.std.proofs.Math.ListN.{length}
-use Rattle.definitions.specs.Lists.{if◌then◌else◌, all, is_empty, flat_map}
+use Rattle.definitions.specs.Lists.{all, is_empty, flat_map}
 use Rattle.definitions.specs.Sheet.Text.{on_first, split, Line, lines_from, is_between, is_digit, is_capital, is_relation_name}
 use Rattle.definitions.specs.Refusal.{Result, accepted, ◌>>=◌, read_lines}
 use Rattle.definitions.specs.Reply.Desk.{print_line}

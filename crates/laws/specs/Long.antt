@@ -1,7 +1,7 @@
 -- How long the lines of steps are: each has at least 7 bytes.
-use Rattle.std.specs.Prelude.{ℕ, suc, ◌+◌, ◌*◌, ◌/◌, ◌%◌, ◌≤◌, Bool, true, false, List, [], ◌∷◌, ◌++◌, leb, length}
+use Rattle.std.specs.Prelude.{ℕ, suc, ◌+◌, ◌*◌, ◌/◌, ◌%◌, ◌≤◌, Bool, true, false, List, [], ◌∷◌, ◌++◌, leb, length, if◌then◌else◌}
 use Rattle.std.proofs.Common.{arith, length-append}
-use Rattle.definitions.specs.Lists.{if◌then◌else◌, flat_map}
+use Rattle.definitions.specs.Lists.{flat_map}
 use Rattle.definitions.specs.Sheet.Text.{bytes, decimal_in, decimal}
 use Rattle.definitions.specs.Reply.Desk.{print_line, step_line}
 

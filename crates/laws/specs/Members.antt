@@ -1,7 +1,7 @@
 -- Ranges: ascending lists of elements. An element and its rank, the elements up to one, the one before it and the greatest; and that
 -- the numbers below n are a range.
 use Prim.Native.Nat.{ℕ, zero, suc, ◌+◌, ◌-◌, ◌<◌, ◌≤◌}
-use Rattle.std.specs.Prelude.{◌≡◌, ◌⊎◌, ◌↔◌, Bool, ◌&&◌, T, eqb, leb, length, get_or}
+use Rattle.std.specs.Prelude.{◌≡◌, ◌⊎◌, ◌↔◌, Bool, ◌&&◌, T, eqb, leb, length, get_or, if◌then◌else◌}
 use Rattle.std.proofs.Math.Path.{refl}
 use Rattle.std.proofs.Common.{sym, ap, ap₂, subst, ◌∙◌, inl, inr, ⊎_elim, add-one, eqb→eq, ltb→lt, lt→ltb, leb→le, le→leb}
 use Rattle.std.proofs.Math.Bool.{true, false}
@@ -11,7 +11,7 @@ use mathlib.Core.List.{List, [], ◌∷◌, map, Memᴰ}
 use native.Mathlib.Omega.{arith}
 use Rattle.std.proofs.Math.Dec.{ltb, eqb_refl}
 use borrow.Author.Tests.{eq-eqb, lt-ltb, ltb-true, ltb-false}
-use Rattle.definitions.specs.Lists.{if◌then◌else◌, all, any, filter, option, from, below, last, is_in, rank, up_to, before, greatest}
+use Rattle.definitions.specs.Lists.{all, any, filter, option, from, below, last, is_in, rank, up_to, before, greatest}
 use Rattle.definitions.specs.Sheet.Sheets.{Member, is_member, has_member}
 use Rattle.definitions.specs.Problem.Truth.{Case, members_of}
 use Rattle.definitions.specs.Problem.Built.{least}

@@ -1,7 +1,7 @@
 -- The problem's atoms and actions, and their numbers: a number decodes to the atom or action whose number it is, and every number
 -- below the count decodes. Where each relation's and each node's numbers start, and those of the `every` relation.
 use Prim.Native.Nat.{ℕ, zero, suc, ◌+◌, ◌-◌, ◌*◌, ◌/◌, ◌%◌, ◌<◌, ◌≤◌}
-use Rattle.std.specs.Prelude.{◌≡◌, ◌⊎◌, Bool, false, not, get_or, take}
+use Rattle.std.specs.Prelude.{◌≡◌, ◌⊎◌, Bool, false, not, get_or, take, if◌then◌else◌}
 use Rattle.std.proofs.Math.Path.{refl, sym, ap, ap₂, subst}
 use Rattle.std.proofs.Common.{◌∙◌, inl, inr, add-zero, take_all}
 use Rattle.std.proofs.Math.Logic.{⊎_elim}
@@ -13,7 +13,7 @@ use Rattle.std.proofs.Math.Nat.{mul-zero, div-add-mod', div-one, mul-one}
 use Rattle.std.proofs.Math.Arith.{digits_lt, digits_div, digits_mod}
 use Rattle.std.proofs.Math.Dec.{T}
 use Rattle.std.proofs.Math.ListN.{length}
-use Rattle.definitions.specs.Lists.{if◌then◌else◌, option, is_some, flat_map, map_from, rank}
+use Rattle.definitions.specs.Lists.{option, is_some, flat_map, map_from, rank}
 use Rattle.definitions.specs.Sheet.Relations.{Kind, static, plain, Fun, PFun, Inj, PInj, universal, is_chosen, is_universal, is_function, is_injective, Relation, fixed}
 use Rattle.definitions.specs.Problem.Tree.{Tree, Trees, leaf, forall_node, exists_node, and_node, or_node, how_many, node_sort}
 use Rattle.definitions.specs.Problem.Atoms.{Block, item_at, count_of, Problem, relation_at, node_at, tuples_of, rows_of, node_width, Atom, guess, proof, goal, tuple}

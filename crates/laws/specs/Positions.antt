@@ -1,6 +1,6 @@
 -- The first element that passes a test: its place is what `position` finds, and nothing before it passes.
 use Prim.Native.Nat.{ℕ, zero, suc, ◌<◌}
-use Rattle.std.specs.Prelude.{◌≡◌, ◌⊎◌, Bool, not, ◌||◌, get_or}
+use Rattle.std.specs.Prelude.{◌≡◌, ◌⊎◌, Bool, not, ◌||◌, get_or, if◌then◌else◌}
 use Rattle.std.proofs.Math.Path.{refl, ap}
 use Rattle.std.proofs.Common.{sym, subst, ◌∙◌}
 use Rattle.std.proofs.Math.Logic.{inl, inr, ⊎_elim}
@@ -10,7 +10,7 @@ use mathlib.Core.List.{List, [], ◌∷◌, ◌++◌}
 use native.Mathlib.Omega.{arith}
 use Rattle.std.proofs.Math.Dec.{T}
 use Rattle.std.proofs.Math.ListN.{length}
-use Rattle.definitions.specs.Lists.{if◌then◌else◌, all, any, option, position}
+use Rattle.definitions.specs.Lists.{all, any, option, position}
 use Rattle.definitions.specs.Problem.Built.{least}
 use Rattle.laws.specs.Booleans.{T_or, or_l, or_r, T_of, T_true, T_false}
 use Rattle.laws.specs.Lists.{none_some, some_eq}

@@ -1,5 +1,5 @@
 -- What acceptance gives: a question and site that `readProblem` accepts are those of a case that is `Accepted`.
-use Rattle.std.specs.Prelude.{ℕ, zero, suc, ◌+◌, ◌<◌, ◌≤◌, ◌≡◌, ◌⊎◌, Bool, ◌&&◌, ◌||◌, leb, eqb, get_or}
+use Rattle.std.specs.Prelude.{ℕ, zero, suc, ◌+◌, ◌<◌, ◌≤◌, ◌≡◌, ◌⊎◌, Bool, ◌&&◌, ◌||◌, leb, eqb, get_or, if◌then◌else◌}
 use Rattle.std.proofs.Math.Path.{refl, subst}
 use Rattle.std.proofs.Common.{sym, ap, ◌∙◌, inl, inr, ⊎_elim, arith, ltb→lt, eqb→eq, leb→le, T_not, length-append}
 use Rattle.std.proofs.Math.Bool.{true, false, not}
@@ -9,7 +9,7 @@ use mathlib.Core.List.{List, [], ◌∷◌, ◌++◌, Memᴰ, append_assoc, appe
 use Rattle.std.proofs.Math.Dec.{T, ltb, nltb→le, nleb→lt, not_T}
 use Rattle.std.proofs.Math.ListN.{length}
 use Rattle.definitions.specs.Limits.{CaseLimits}
-use Rattle.definitions.specs.Lists.{if◌then◌else◌, all, any, same, is_empty, option, is_some, listed, position, below}
+use Rattle.definitions.specs.Lists.{all, any, same, is_empty, option, is_some, listed, position, below}
 use Rattle.definitions.specs.Sheet.Text.{Line, fields, is_between, is_relation_name, number, lines, bytes}
 use Rattle.definitions.specs.Refusal.{Result, refused, accepted, ◌>>=◌, refuse_if, given, read_lines, read_text}
 use Rattle.definitions.specs.Limits.{text_limit}

@@ -1,13 +1,13 @@
 -- Which numbers each call refuses with, whatever is handed over. Numbers come as lists, so that a later one joins where it belongs.
 use Prim.Native.Nat.{ℕ, zero, suc, ◌<◌}
-use Rattle.std.specs.Prelude.{◌≡◌, Bool, ltb, length}
+use Rattle.std.specs.Prelude.{◌≡◌, Bool, ltb, length, if◌then◌else◌}
 use Rattle.std.proofs.Math.Path.{refl}
 use Rattle.std.proofs.Common.{subst, arith}
 use Rattle.std.proofs.Math.Bool.{true, false}
 use Rattle.std.proofs.Math.Option.{Option, none, some}
 use mathlib.Core.List.{List, [], ◌∷◌, ◌++◌}
 use Rattle.definitions.specs.Limits.{CaseLimits, text_limit}
-use Rattle.definitions.specs.Lists.{if◌then◌else◌, all, any, option, is_in}
+use Rattle.definitions.specs.Lists.{all, any, option, is_in}
 use Rattle.definitions.specs.Sheet.Text.{Line, lines}
 use Rattle.definitions.specs.Refusal.{Result, refused, accepted, ◌>>=◌, refuse_if, given, read_lines, read_text, case_numbers, ready_numbers, run_numbers, picks_numbers, find_numbers, monotone_numbers}
 use Rattle.definitions.specs.Sheet.Relations.{Relation, Tuple}

@@ -1,6 +1,6 @@
 -- Lists without repeats, and how long they can be.
 use Prim.Native.Nat.{ℕ, zero, suc, ◌<◌, ◌≤◌}
-use Rattle.std.specs.Prelude.{◌≡◌, refl, ◌⊎◌, Bool, not, T}
+use Rattle.std.specs.Prelude.{◌≡◌, refl, ◌⊎◌, Bool, not, T, if◌then◌else◌}
 use Rattle.std.proofs.Common.{sym, ap, subst, ◌∙◌, inl, inr, T_not}
 use Rattle.std.proofs.Math.Logic.{⊎_elim}
 use Rattle.std.proofs.Math.Bool.{true, false}
@@ -9,7 +9,7 @@ use mathlib.Core.List.{List, [], ◌∷◌, ◌++◌, map, Memᴰ}
 use native.Mathlib.Omega.{arith}
 use Rattle.std.proofs.Math.Dec.{not_T}
 use Rattle.std.proofs.Math.ListN.{length}
-use Rattle.definitions.specs.Lists.{if◌then◌else◌, filter, flat_map, from, below}
+use Rattle.definitions.specs.Lists.{filter, flat_map, from, below}
 use Rattle.definitions.specs.Sheet.Relations.{Tuple, is_among, are_distinct}
 use Rattle.laws.specs.Booleans.{and_T, T_and_l, T_and_r, T_of}
 use Rattle.laws.specs.Lists.{filter_mem, from_mem, map_mem, flat_mem}

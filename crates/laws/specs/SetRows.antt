@@ -1,6 +1,6 @@
 -- The rows that set actions set: rows of tuples, none twice. Of a function kind they are the pairs of its two ranges, of any other
 -- `choose` all rows.
-use Rattle.std.specs.Prelude.{ℕ, zero, suc, ◌+◌, ◌*◌, ◌/◌, ◌%◌, ◌^◌, ◌<◌, ◌≤◌, ◌≡◌, Bool, ◌&&◌, ltb, get_or}
+use Rattle.std.specs.Prelude.{ℕ, zero, suc, ◌+◌, ◌*◌, ◌/◌, ◌%◌, ◌^◌, ◌<◌, ◌≤◌, ◌≡◌, Bool, ◌&&◌, ltb, get_or, if◌then◌else◌}
 use Rattle.std.proofs.Math.Path.{refl, ap}
 use Rattle.std.proofs.Common.{sym, ap₂, subst, ◌∙◌, mul-zero, suc-mul, mul-le-mul_right, mod-lt, le-div_iff_mul-le, div-lt_iff_lt-mul, div-add-mod', div-mul-le_self, ltb-true, ltb-false}
 use Rattle.std.proofs.Math.Bool.{true, false}
@@ -10,7 +10,7 @@ use native.Mathlib.Omega.{arith}
 use Rattle.std.proofs.Math.Arith.{digits_lt, digits_div, digits_mod}
 use Rattle.std.proofs.Math.Dec.{T}
 use Rattle.std.proofs.Math.ListN.{length, length-map}
-use Rattle.definitions.specs.Lists.{if◌then◌else◌, filter, below, is_in, rank}
+use Rattle.definitions.specs.Lists.{filter, below, is_in, rank}
 use Rattle.definitions.specs.Sheet.Relations.{Kind, static, plain, Fun, PFun, Inj, PInj, universal, is_chosen, is_function, Relation}
 use Rattle.definitions.specs.Problem.Atoms.{tuples_of}
 use Rattle.definitions.specs.Problem.Actions.{is_settable, set_rows, sets_of}

@@ -1,11 +1,11 @@
 -- The sort of every node of a question's tree is 0 or that of a declared type: no more than there are types.
-use Rattle.std.specs.Prelude.{ℕ, zero, suc, ◌≤◌, ◌≡◌, refl, Bool, true, false, ltb, length, get_or}
+use Rattle.std.specs.Prelude.{ℕ, zero, suc, ◌≤◌, ◌≡◌, refl, Bool, true, false, ltb, length, get_or, if◌then◌else◌}
 use Rattle.std.proofs.Common.{sym, subst, ⊎_elim, arith, ltb-true, ltb-false}
 use Rattle.std.proofs.Math.Option.{Option, none, some}
 use mathlib.Core.List.Memᴰ
 use mathlib.Core.List.{List, [], ◌∷◌, ◌++◌, map, Memᴰ}
 use Rattle.std.proofs.Math.ListN.{get_or-eq_default}
-use Rattle.definitions.specs.Lists.{if◌then◌else◌, option}
+use Rattle.definitions.specs.Lists.{option}
 use Rattle.definitions.specs.Sheet.Relations.{Relation, is_total}
 use Rattle.definitions.specs.Sheet.Formula.{Quantified, Formula, Formulas, literal, negation, implication, conjunction, disjunction, exists, forall, nil, cons, variables_of, sort_named, sort_of}
 use Rattle.definitions.specs.Sheet.Sheets.{Question, relations_of, first_chosen}

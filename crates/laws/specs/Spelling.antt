@@ -1,13 +1,13 @@
 -- How an element may be written in a field: by its number or by its label. What is read was so written, and what is so written is read.
 use Prim.Native.Nat.{ℕ, suc, ◌<◌, ◌≤◌}
-use Rattle.std.specs.Prelude.{◌≡◌, ◌⊎◌, Bool, true, false, ◌&&◌, ◌||◌, ltb, leb, eqb, length}
+use Rattle.std.specs.Prelude.{◌≡◌, ◌⊎◌, Bool, true, false, ◌&&◌, ◌||◌, ltb, leb, eqb, length, if◌then◌else◌}
 use Rattle.std.proofs.Math.Path.{refl, ap, subst}
 use Rattle.std.proofs.Common.{sym, ap₂, ◌∙◌, arith, leb→le}
 use Rattle.std.proofs.Math.Logic.{inl, inr, ⊎_elim}
 use Rattle.std.proofs.Math.Option.{Option, none, some}
 use mathlib.Core.List.{List, [], ◌∷◌, map}
 use Rattle.std.proofs.Math.Dec.{T, ltb→lt}
-use Rattle.definitions.specs.Lists.{if◌then◌else◌, all, option}
+use Rattle.definitions.specs.Lists.{all, option}
 use Rattle.definitions.specs.Sheet.Text.{decimal, decimal_in, number, is_between, is_digit, is_capital, is_relation_name}
 use Rattle.definitions.specs.Sheet.Sheets.{Element, numbered, named, element, elements, Label, name_of, element_of, elements_of, is_in_range}
 use Rattle.definitions.specs.Reply.Desk.{said}

@@ -1,6 +1,6 @@
 -- What a sheet of steps or picks that was read tells of its text: line by line it says them.
 use Prim.Native.Nat.{ℕ, zero, ◌+◌, ◌-◌, ◌^◌, ◌≤◌, ◌<◌}
-use Rattle.std.specs.Prelude.{◌≡◌, Bool, true, false, not, ◌&&◌, ltb, get_or}
+use Rattle.std.specs.Prelude.{◌≡◌, Bool, true, false, not, ◌&&◌, ltb, get_or, if◌then◌else◌}
 use Rattle.std.proofs.Math.Path.{refl, sym, ap}
 use Rattle.std.proofs.Common.{ap₂, subst, subst₂, ◌∙◌}
 use Rattle.std.proofs.Math.Option.{Option, none, some}
@@ -10,7 +10,7 @@ use Rattle.std.proofs.Math.Dec.{T, eqb}
 use Rattle.std.proofs.Math.ListN.{length}
 use borrow.Author.Tests.{eqb-true, ltb-false, not-false}
 use Rattle.definitions.specs.Limits.{text_limit}
-use Rattle.definitions.specs.Lists.{if◌then◌else◌, all, same, option, flat_map, position, is_empty}
+use Rattle.definitions.specs.Lists.{all, same, option, flat_map, position, is_empty}
 use Rattle.definitions.specs.Sheet.Text.{bytes, decimal, number, on_first, split, Line, lines, lines_from, fields, is_between, is_relation_name}
 use Rattle.definitions.specs.Refusal.{Result, accepted, refuse_if, given, read_lines, read_text}
 use Rattle.definitions.specs.Sheet.Relations.{Kind, plain, Relation, Tuple, is_among}

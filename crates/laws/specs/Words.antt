@@ -1,9 +1,9 @@
 -- Sets of numbers as 64-bit words: the definitions' words are the tables of crate `bits`, so all laws of tables hold of them.
-use Rattle.std.specs.Prelude.{ℕ, zero, suc, ◌+◌, ◌*◌, ◌/◌, ◌%◌, ◌^◌, ◌<◌, ◌≤◌, ◌≡◌, refl, Bool, true, false, List, ◌∷◌, ◌++◌, map, eqb, length}
+use Rattle.std.specs.Prelude.{ℕ, zero, suc, ◌+◌, ◌*◌, ◌/◌, ◌%◌, ◌^◌, ◌<◌, ◌≤◌, ◌≡◌, refl, Bool, true, false, List, ◌∷◌, ◌++◌, map, eqb, length, if◌then◌else◌}
 use Rattle.std.proofs.Common.{sym, ap, ap₂, ◌∙◌, arith, add-zero, get_or-append-add}
 use Rattle.std.proofs.Math.Path.{fun_ext}
 use Rattle.std.proofs.Math.ListN.{get_or-append}
-use Rattle.definitions.specs.Lists.{if◌then◌else◌, from, below}
+use Rattle.definitions.specs.Lists.{from, below}
 use Rattle.definitions.specs.Problem.Atoms.{Problem, atoms, State, words_for, bits_from, state_words}
 use Rattle.definitions.specs.Reply.Outcome.{bit_of, state_length}
 use Rattle.bits.specs.Table.{digit, bit, num, word, words}

@@ -1,5 +1,5 @@
 -- The cells of a problem, all tuples of its `choose` relations, and the numbers of sets of them: every set of cells is that of one number.
-use Rattle.std.specs.Prelude.{ℕ, zero, suc, ◌+◌, ◌*◌, ◌/◌, ◌%◌, ◌^◌, ◌<◌, ◌≡◌, refl, Bool, true, false, eqb, length}
+use Rattle.std.specs.Prelude.{ℕ, zero, suc, ◌+◌, ◌*◌, ◌/◌, ◌%◌, ◌^◌, ◌<◌, ◌≡◌, refl, Bool, true, false, eqb, length, if◌then◌else◌}
 use Rattle.std.proofs.Common.{sym, ap₂, ◌∙◌, ⊎_elim, arith, mul_assoc, mod-lt, div-add-mod', mod-eq_of_lt, div-lt_iff_lt-mul, pow_pos, eqb-true}
 use Rattle.std.proofs.Math.Path.{ap, subst}
 use mathlib.Core.List.Memᴰ
@@ -7,7 +7,7 @@ use mathlib.Core.List.{List, [], ◌∷◌, Memᴰ}
 use Rattle.std.proofs.Math.Nat.{pow-zero, pow-succ', mod-add-div', add-mul-div_right, add-mul-mod_self_right}
 use Rattle.std.proofs.Math.Arith.{digits_lt, digits_div}
 use Rattle.std.proofs.lemmas.Bool.{eqb-false}
-use Rattle.definitions.specs.Lists.{if◌then◌else◌, filter, below}
+use Rattle.definitions.specs.Lists.{filter, below}
 use Rattle.definitions.specs.Sheet.Relations.{Tuple, is_among, is_chosen}
 use Rattle.definitions.specs.Problem.Atoms.{Problem, relation_at, row_of, tuples_of}
 use Rattle.definitions.specs.Problem.Built.{chosen_numbers}

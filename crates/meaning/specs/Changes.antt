@@ -1,11 +1,11 @@
 -- What a step changes, said of atoms by an equation: what it removes goes, what it adds comes, and every other atom stays.
-use Rattle.std.specs.Prelude.{ℕ, zero, suc, ◌≡◌, Bool, true, false, ◌&&◌, T, eqb}
+use Rattle.std.specs.Prelude.{ℕ, zero, suc, ◌≡◌, Bool, true, false, ◌&&◌, T, eqb, if◌then◌else◌}
 use Rattle.std.proofs.Math.Path.{refl, ap₂}
 use Rattle.std.proofs.Common.{sym, ap, subst, ◌∙◌, eqb→eq, eq-eqb}
 use Rattle.std.proofs.Math.Bool.{not, ◌||◌, and-true, or_assoc}
 use mathlib.Core.List.{List, [], ◌∷◌, ◌++◌, map, Memᴰ}
 use Rattle.std.proofs.Math.Dec.{eqb_refl}
-use Rattle.definitions.specs.Lists.{if◌then◌else◌, any}
+use Rattle.definitions.specs.Lists.{any}
 use Rattle.definitions.specs.Sheet.Relations.{Relation, is_function, is_injective}
 use Rattle.definitions.specs.Problem.Atoms.{Problem, Atom, guess, proof, goal, tuple, not_tuple, free_domain, free_range, holds_node, marked, atom_number, State}
 use Rattle.definitions.specs.Problem.Actions.{Action, free_atoms, adds, removes}

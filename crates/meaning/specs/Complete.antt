@@ -1,6 +1,6 @@
 -- Completeness: the built steps of picks that solve the case reach the goal and are read as those picks.
 use Prim.Native.Nat.{ℕ, zero, suc, ◌+◌, ◌*◌, ◌/◌, ◌%◌, ◌^◌, ◌<◌, ◌≤◌}
-use Rattle.std.specs.Prelude.{◌≡◌, ◌⊎◌, Bool, not, eqb, length}
+use Rattle.std.specs.Prelude.{◌≡◌, ◌⊎◌, Bool, not, eqb, length, if◌then◌else◌}
 use Rattle.std.proofs.Math.Path.{refl, sym, ap, ap₂, subst, subst₂}
 use Rattle.std.proofs.Common.{◌∙◌, inl, inr, zero-add, eqb→eq, eq-eqb}
 use Rattle.std.proofs.Math.Logic.{⊎_elim}
@@ -13,7 +13,7 @@ use Rattle.std.proofs.Math.Nat.{pow-succ', one-le-pow}
 use Rattle.std.proofs.Math.Dec.{T, T_not, not_T}
 use Rattle.std.proofs.Math.ListN.{get_or}
 use Rattle.std.proofs.lemmas.Bool.{eqb-false}
-use Rattle.definitions.specs.Lists.{if◌then◌else◌, flat_map, option, is_some, from, below}
+use Rattle.definitions.specs.Lists.{flat_map, option, is_some, from, below}
 use Rattle.definitions.specs.Sheet.Relations.{Relation, Tuple, is_chosen, is_universal, is_function, is_injective}
 use Rattle.definitions.specs.Problem.Truth.{holds, every_tuples, values, is_odd, digit, every_value}
 use Rattle.definitions.specs.Problem.Tree.{Tree, leaf, forall_node, exists_node, and_node, or_node}

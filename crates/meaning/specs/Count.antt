@@ -1,6 +1,6 @@
 -- How many the built steps are: picks, 1, and for each round its true node atoms, its end and its marks; and at most the bound.
 use Prim.Native.Nat.{ℕ, zero, suc, ◌+◌, ◌-◌, ◌*◌, ◌/◌, ◌%◌, ◌^◌, ◌<◌, ◌≤◌}
-use Rattle.std.specs.Prelude.{◌≡◌, Bool, not}
+use Rattle.std.specs.Prelude.{◌≡◌, Bool, not, if◌then◌else◌}
 use Rattle.std.proofs.Math.Path.{refl, ap, subst}
 use Rattle.std.proofs.Common.{sym, ap₂, ◌∙◌, zero-add, le_of_eq, div-add-mod', mul-le-mul_left}
 use Rattle.std.proofs.Math.Bool.{true, false}
@@ -9,7 +9,7 @@ use native.Mathlib.Omega.{arith}
 use Rattle.std.proofs.Math.Nat.{add-zero, le_trans, pow-succ', one-le-pow, mul-one, suc-mul, mul-add}
 use Rattle.std.proofs.Math.Dec.{T}
 use Rattle.std.proofs.Math.ListN.{length, get_or, length-append, length-map}
-use Rattle.definitions.specs.Lists.{if◌then◌else◌, is_some, filter, flat_map, from, below, sum, map_from}
+use Rattle.definitions.specs.Lists.{is_some, filter, flat_map, from, below, sum, map_from}
 use Rattle.definitions.specs.Sheet.Relations.{Relation, Tuple, is_chosen, is_universal, is_function, is_injective}
 use Rattle.definitions.specs.Sheet.Sheets.{every_number}
 use Rattle.definitions.specs.Problem.Truth.{every_tuples, values, is_odd, every_value}

@@ -1,6 +1,6 @@
 -- The proof phase of the built steps: each step may be taken, nothing is lost, and every true node atom is there at the end.
 use Prim.Native.Nat.{ℕ, zero, suc, ◌+◌, ◌*◌, ◌/◌, ◌%◌, ◌<◌, ◌≤◌}
-use Rattle.std.specs.Prelude.{◌≡◌, ◌⊎◌, ◌||◌, get_or, take, drop}
+use Rattle.std.specs.Prelude.{◌≡◌, ◌⊎◌, ◌||◌, get_or, take, drop, if◌then◌else◌}
 use Rattle.std.proofs.Math.Path.{refl, ap, subst}
 use Rattle.std.proofs.Common.{sym, ◌∙◌, add-zero, zero-add, div-lt_iff_lt-mul}
 use Rattle.std.proofs.Math.Logic.{inl, inr, ⊎_elim}
@@ -12,7 +12,7 @@ use native.Mathlib.Omega.{arith}
 use Rattle.std.proofs.Math.Nat.{div-add-mod'}
 use Rattle.std.proofs.Math.Dec.{T}
 use Rattle.std.proofs.Math.ListN.{length}
-use Rattle.definitions.specs.Lists.{if◌then◌else◌, all, any, filter, option, from, below, up_to, before}
+use Rattle.definitions.specs.Lists.{all, any, filter, option, from, below, up_to, before}
 use Rattle.definitions.specs.Sheet.Relations.{Tuple}
 use Rattle.definitions.specs.Problem.Tree.{Tree, Trees, leaf, forall_node, exists_node, and_node, or_node, end, ◌then◌, nodes, Part, parts_from, parts, how_many, is_forall, node_sort}
 use Rattle.definitions.specs.Problem.Atoms.{Problem, node_at, rows_of, node_width, Atom, guess, proof, goal, tuple, not_tuple, free_domain, free_range, holds_node, marked, atom_number, State}

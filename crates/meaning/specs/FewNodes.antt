@@ -1,13 +1,13 @@
 -- How many nodes and parts a rule's tree has: no more than the forms that are counted, of which there are at most 64.
 use Prim.Native.Nat.{ℕ, zero, suc, ◌+◌, ◌*◌, ◌<◌, ◌≤◌}
-use Rattle.std.specs.Prelude.{◌≡◌, refl, Bool, false, eqb, length, get_or}
+use Rattle.std.specs.Prelude.{◌≡◌, refl, Bool, false, eqb, length, get_or, if◌then◌else◌}
 use Rattle.std.proofs.Common.{subst, ⊎_elim, length-append, ne_eqb}
 use Rattle.std.proofs.Math.Bool.{true}
 use mathlib.Core.List.Memᴰ
 use mathlib.Core.List.{List, [], ◌∷◌, ◌++◌, map, Memᴰ}
 use native.Mathlib.Omega.{arith}
 use Rattle.std.proofs.lemmas.List.{length-map}
-use Rattle.definitions.specs.Lists.{if◌then◌else◌, filter}
+use Rattle.definitions.specs.Lists.{filter}
 use Rattle.definitions.specs.Sheet.Relations.{Relation, is_total}
 use Rattle.definitions.specs.Sheet.Formula.{Formula, Formulas, literal, negation, implication, conjunction, disjunction, exists, forall, nil, cons, variables_of, sort_of, forms, forms_all, totals, all_forms}
 use Rattle.definitions.specs.Sheet.Sheets.{relations_of, first_chosen}

@@ -1,6 +1,6 @@
 -- The problem of an accepted case is a good one.
 use Prim.Native.Nat.{ℕ, zero, suc, ◌+◌, ◌-◌, ◌<◌, ◌≤◌}
-use Rattle.std.specs.Prelude.{◌≡◌, ◌⊎◌, Bool, not, ◌&&◌, ◌||◌, leb}
+use Rattle.std.specs.Prelude.{◌≡◌, ◌⊎◌, Bool, not, ◌&&◌, ◌||◌, leb, if◌then◌else◌}
 use Rattle.std.proofs.Math.Path.{refl, sym, ap, subst}
 use Rattle.std.proofs.Common.{ap₂, subst₂, ◌∙◌, zero-add, lt→ltb, T_not, leb→le}
 use Rattle.std.proofs.Math.Logic.{inl, inr, ⊎_elim}
@@ -14,7 +14,7 @@ use Rattle.std.proofs.Math.Dec.{T, ltb, eqb, eqb→eq}
 use Rattle.std.proofs.Math.ListN.{length, get_or, length-append, length-map, get_or-append, get_or-eq_default}
 use Rattle.std.proofs.Math.Seq.{get_or-append-add}
 use borrow.Author.Tests.{ltb-true, ltb-false, le-ltb, lt-ltb}
-use Rattle.definitions.specs.Lists.{if◌then◌else◌, all, any, same, option, is_some, listed, position}
+use Rattle.definitions.specs.Lists.{all, any, same, option, is_some, listed, position}
 use Rattle.definitions.specs.Sheet.Relations.{Kind, static, plain, Fun, PFun, Inj, PInj, universal, is_chosen, is_universal, is_function, is_total, Relation, Tuple, built_in, number_of, is_declared, built_in_holds, is_among}
 use Rattle.definitions.specs.Sheet.Formula.{Quantified, variables_of, Formula, Formulas, literal, negation, implication, conjunction, disjunction, exists, forall, nil, cons, nesting, nesting_all, is_known, are_known, is_bound, are_new, is_scoped, are_scoped, sort_of}
 use Rattle.definitions.specs.Sheet.Sheets.{Question, relations_of, relations, first_chosen, first_rel, every_number}

@@ -1,7 +1,7 @@
 -- The tuples of a `choose` that hold after steps were taken are those that the steps set: only set actions add tuples of it, nothing
 -- removes them, and none holds at first.
 use Prim.Native.Nat.{ℕ, zero, suc, ◌<◌, ◌+◌, ◌*◌}
-use Rattle.std.specs.Prelude.{◌≡◌, Bool, not, ◌&&◌, ◌||◌, length}
+use Rattle.std.specs.Prelude.{◌≡◌, Bool, not, ◌&&◌, ◌||◌, length, if◌then◌else◌}
 use Rattle.std.proofs.Math.Path.{refl, sym, ap, subst, fun_ext}
 use Rattle.std.proofs.Common.{ap₂, ◌∙◌, eqb→eq}
 use Rattle.std.proofs.Math.Bool.{true, false, or-false, or_assoc}
@@ -11,7 +11,7 @@ use Rattle.std.proofs.Math.Dec.{T, eqb, eqb_refl, ltb, not_T}
 use borrow.Author.Tests.{ltb-true, not-true}
 use Rattle.definitions.specs.Reply.Outcome.{relation_words, pick_words}
 use Rattle.laws.specs.Lists.{any_at, filter_mem, flat_same, below_lt}
-use Rattle.definitions.specs.Lists.{if◌then◌else◌, any, option, flat_map, below}
+use Rattle.definitions.specs.Lists.{any, option, flat_map, below}
 use Rattle.definitions.specs.Refusal.{Result, refused, accepted}
 use Rattle.definitions.specs.Sheet.Relations.{Tuple, is_among, same_tuple, is_chosen, is_universal}
 use Rattle.definitions.specs.Sheet.Sheets.{every_number}

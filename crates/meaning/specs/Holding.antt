@@ -1,5 +1,5 @@
 -- What holds, by picks: of a `choose`, and of the relation of an `every` line, what is given; of any other relation the same whatever is given.
-use Rattle.std.specs.Prelude.{ℕ, ◌<◌, ◌≤◌, ◌≡◌, ◌⊎◌, Bool, get_or}
+use Rattle.std.specs.Prelude.{ℕ, ◌<◌, ◌≤◌, ◌≡◌, ◌⊎◌, Bool, get_or, if◌then◌else◌}
 use Rattle.std.proofs.Math.Path.{refl, sym, ap, subst}
 use Rattle.std.proofs.Common.{◌∙◌, ⊎_elim, arith}
 use Rattle.std.proofs.Math.Logic.{inl, inr}
@@ -7,7 +7,7 @@ use Rattle.std.proofs.Math.Bool.{true, false}
 use mathlib.Core.List.{List, [], ◌∷◌, ◌++◌, Memᴰ}
 use Rattle.std.proofs.Math.Dec.{T, ltb}
 use borrow.Author.Tests.{ltb-false, le-ltb}
-use Rattle.definitions.specs.Lists.{if◌then◌else◌, any}
+use Rattle.definitions.specs.Lists.{any}
 use Rattle.definitions.specs.Sheet.Relations.{Tuple, is_among, built_in_holds}
 use Rattle.definitions.specs.Sheet.Sheets.{first_rel, first_chosen}
 use Rattle.definitions.specs.Problem.Truth.{Case, holds}

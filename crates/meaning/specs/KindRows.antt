@@ -2,7 +2,7 @@
 -- injective one also if some second has two firsts, which are bits n apart; and either by a bit whose first or second place is not of
 -- its sort.
 use Prim.Native.Nat.{ℕ, zero, suc, ◌+◌, ◌*◌, ◌<◌}
-use Rattle.std.specs.Prelude.{◌≡◌, true, false, ◌||◌, ltb}
+use Rattle.std.specs.Prelude.{◌≡◌, true, false, ◌||◌, ltb, if◌then◌else◌}
 use Rattle.std.proofs.Math.Path.{refl, sym, ap, ap₂}
 use Rattle.std.proofs.Common.{subst, ◌∙◌, ⊎_elim, add-zero, zero-add, eqb→eq, ltb→lt, nltb→le, lt→ltb}
 use Rattle.std.proofs.Math.Bool.{Bool, not, ◌&&◌, not-not, and-false}
@@ -14,7 +14,7 @@ use Rattle.std.proofs.Math.Arith.{digits_lt, digits_div, digits_mod}
 use Rattle.std.proofs.Math.Dec.{T, eqb, eqb_refl}
 use Rattle.std.proofs.Math.ListN.{length, get_or}
 use Rattle.bits.specs.Table.{num, count}
-use Rattle.definitions.specs.Lists.{listed, if◌then◌else◌, any, filter, option, position, map_from, from, below, is_in}
+use Rattle.definitions.specs.Lists.{listed, any, filter, option, position, map_from, from, below, is_in}
 use Rattle.definitions.specs.Sheet.Relations.{Kind, Relation, Tuple, is_among, is_chosen, is_function, is_injective}
 use Rattle.definitions.specs.Sheet.Sheets.{first_chosen}
 use Rattle.definitions.specs.Problem.Truth.{Case, two, first, second, is_inside, is_of_kind, each_chosen, first_of_other_kind}

@@ -2,7 +2,7 @@
 -- layer is the first one before which all that it needs is there. So the layer of a step is told from a table of levels, one for each
 -- atom, filled in one pass over the built steps.
 use Prim.Native.Nat.{ℕ, zero, suc, ◌+◌, ◌-◌, ◌<◌, ◌≤◌}
-use Rattle.std.specs.Prelude.{◌≡◌, ◌⊎◌, Bool, ◌&&◌, ◌||◌, eqb, ltb, length}
+use Rattle.std.specs.Prelude.{◌≡◌, ◌⊎◌, Bool, ◌&&◌, ◌||◌, eqb, ltb, length, if◌then◌else◌}
 use Rattle.std.proofs.Math.Path.{refl, sym, ap, ap₂, subst, fun_ext}
 use Rattle.std.proofs.Common.{◌∙◌}
 use Rattle.std.proofs.Math.Logic.{inl, inr, ⊎_elim}
@@ -12,7 +12,7 @@ use mathlib.Core.List.{List, [], ◌∷◌, ◌++◌, map, append_assoc, Memᴰ}
 use native.Mathlib.Omega.{arith}
 use Rattle.std.proofs.Math.Dec.{T, leb, T_not, not_T}
 use borrow.Author.Tests.{leb-true, leb-false, ltb-true, ltb-false, lt-ltb, le-ltb}
-use Rattle.definitions.specs.Lists.{if◌then◌else◌, all, any, flat_map, is_in}
+use Rattle.definitions.specs.Lists.{all, any, flat_map, is_in}
 use Rattle.definitions.specs.Problem.Atoms.{Problem, Atom, atom_number, State}
 use Rattle.definitions.specs.Problem.Actions.{Action, needs, adds, removes}
 use Rattle.definitions.specs.Problem.Strips.{may_take, after}

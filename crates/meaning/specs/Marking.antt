@@ -1,7 +1,7 @@
 -- Between two rounds: what the state says of tuples and nodes after a round's end and after each mark; so the next round begins as the first did,
 -- with the next value.
 use Prim.Native.Nat.{ℕ, zero, suc, ◌+◌, ◌*◌, ◌/◌, ◌^◌, ◌<◌}
-use Rattle.std.specs.Prelude.{◌≡◌, ◌⊎◌, Bool, false, not, ◌&&◌, eqb, leb, ltb, length}
+use Rattle.std.specs.Prelude.{◌≡◌, ◌⊎◌, Bool, false, not, ◌&&◌, eqb, leb, ltb, length, if◌then◌else◌}
 use Rattle.std.proofs.Math.Path.{refl, sym, ap, subst}
 use Rattle.std.proofs.Common.{ap₂, subst₂, ◌∙◌, inl, inr, zero-add, eqb→eq, eq-eqb}
 use Rattle.std.proofs.Math.Logic.{⊎_elim}
@@ -12,7 +12,6 @@ use native.Mathlib.Omega.{arith}
 use Rattle.std.proofs.Math.Nat.{pow-succ'}
 use Rattle.std.proofs.Math.Dec.{T, leb→le, T_not, not_T}
 use Rattle.std.proofs.lemmas.Bool.{eqb-false}
-use Rattle.definitions.specs.Lists.{if◌then◌else◌}
 use Rattle.definitions.specs.Sheet.Relations.{Tuple, is_universal}
 use Rattle.definitions.specs.Problem.Truth.{holds, every_tuples, values, is_odd, digit, every_value}
 use Rattle.definitions.specs.Problem.Atoms.{Problem, relation_at, node_at, tuples_of, places_of, Atom, guess, proof, goal, tuple, not_tuple, free_domain, free_range, holds_node, marked, atom_number, State}

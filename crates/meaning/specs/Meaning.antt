@@ -1,11 +1,11 @@
 -- The tree means what the rule as written means, totalities included.
 use Prim.Native.Nat.{ℕ, zero, suc, ◌<◌}
-use Rattle.std.specs.Prelude.{◌≡◌, ◌⊎◌, Bool, not, ◌||◌, T, eqb, length}
+use Rattle.std.specs.Prelude.{◌≡◌, ◌⊎◌, Bool, not, ◌||◌, T, eqb, length, if◌then◌else◌}
 use Rattle.std.proofs.Math.Path.{refl, sym, ap, ap₂, fun_ext}
 use Rattle.std.proofs.Common.{subst, ◌∙◌, inl, inr, ⊎_elim, arith, T_not, length-append, eq-eqb, ne_eqb}
 use Rattle.std.proofs.Math.Bool.{true, false, ◌&&◌, not-not, and-true}
 use mathlib.Core.List.{List, [], ◌∷◌, ◌++◌, map, append_assoc, append-nil}
-use Rattle.definitions.specs.Lists.{if◌then◌else◌, all, any, same, option, position, map_from}
+use Rattle.definitions.specs.Lists.{all, any, same, option, position, map_from}
 use Rattle.definitions.specs.Sheet.Relations.{Relation, Tuple, number_of, is_total}
 use Rattle.definitions.specs.Sheet.Formula.{Quantified, variables_of, Formula, Formulas, literal, negation, implication, conjunction, disjunction, exists, forall, nil, cons, is_known, are_known, is_bound, are_new, is_scoped, are_scoped, sort_of}
 use Rattle.definitions.specs.Sheet.Sheets.{relations_of, first_chosen}

@@ -1,6 +1,6 @@
 -- The words of a domain: PDDL ignores case, and no two actions, predicates or objects have one word, even so.
 use Prim.Native.Nat.{ℕ, zero, suc, ◌+◌, ◌-◌, ◌<◌, ◌≤◌}
-use Rattle.std.specs.Prelude.{◌≡◌, Bool, not, ◌&&◌, ◌||◌, ltb, eqb, take, drop}
+use Rattle.std.specs.Prelude.{◌≡◌, Bool, not, ◌&&◌, ◌||◌, ltb, eqb, take, drop, if◌then◌else◌}
 use Rattle.std.proofs.Math.Path.{refl, ap, ap₂, subst}
 use Rattle.std.proofs.Common.{sym, ◌∙◌, eqb→eq, take_at, le-leb, le-ltb}
 use Rattle.std.proofs.Math.Logic.{⊎_elim}
@@ -13,7 +13,7 @@ use Rattle.std.proofs.Math.Dec.{T, not_T}
 use Rattle.std.proofs.Math.ListN.{length, get_or, length-append}
 use Rattle.std.proofs.Math.Seq.{get_or-append_seam}
 use Rattle.std.proofs.lemmas.Bool.{lt-leb}
-use Rattle.definitions.specs.Lists.{if◌then◌else◌, all, same, option, listed, flat_map, map_from, below}
+use Rattle.definitions.specs.Lists.{all, same, option, listed, flat_map, map_from, below}
 use Rattle.definitions.specs.Sheet.Text.{bytes, split, on_first, is_between, is_capital, is_small, is_digit, is_relation_name, no_leading_zero, decimal_value, number, decimal, decimal_in}
 use Rattle.definitions.specs.Sheet.Relations.{Relation, number_of, built_in, is_chosen, is_function, is_injective}
 use Rattle.definitions.specs.Sheet.Sheets.{relations, relations_of}

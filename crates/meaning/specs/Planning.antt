@@ -1,7 +1,7 @@
 -- The builder's way through the proof phase, by what may be taken alone: nodes from the last to the first, each node's rows in order,
 -- at each row the first action that proves it and may be taken. These are the built steps.
 use Prim.Native.Nat.{ℕ, zero, suc, ◌+◌, ◌*◌, ◌/◌, ◌%◌, ◌<◌, ◌≤◌}
-use Rattle.std.specs.Prelude.{◌≡◌, ◌⊎◌, not, ◌&&◌, ◌||◌, ltb, leb, take}
+use Rattle.std.specs.Prelude.{◌≡◌, ◌⊎◌, not, ◌&&◌, ◌||◌, ltb, leb, take, if◌then◌else◌}
 use Rattle.std.proofs.Math.Path.{refl, sym, ap, ap₂, subst, fun_ext}
 use Rattle.std.proofs.Common.{◌∙◌, add-zero, div-lt_iff_lt-mul, ltb→lt, lt→ltb, nltb→le, leb→le, take-suc}
 use Rattle.std.proofs.Math.Logic.{inl, inr, ⊎_elim}
@@ -14,7 +14,7 @@ use Rattle.std.proofs.Math.Dec.{T, eqb, le→leb, eqb→eq}
 use borrow.Author.Tests.{eq-eqb, ne_eqb}
 use Rattle.std.proofs.Math.ListN.{length, get_or}
 use Rattle.std.proofs.Math.Seq.{length-take-le}
-use Rattle.definitions.specs.Lists.{if◌then◌else◌, all, any, filter, option, position, from, below, is_in, rank, up_to}
+use Rattle.definitions.specs.Lists.{all, any, filter, option, position, from, below, is_in, rank, up_to}
 use Rattle.definitions.specs.Sheet.Relations.{Tuple}
 use Rattle.definitions.specs.Problem.Tree.{Tree, Trees, leaf, forall_node, exists_node, and_node, or_node, end, ◌then◌, nodes, Part, parts_from, parts, how_many, is_forall, node_sort}
 use Rattle.definitions.specs.Problem.Atoms.{Problem, node_at, rows_of, node_width, Atom, guess, proof, goal, tuple, not_tuple, free_domain, free_range, holds_node, marked, atom_number, atoms, State}

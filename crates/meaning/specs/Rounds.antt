@@ -2,7 +2,7 @@
 -- rounds, with the mark at tuple i: no proof and no node's atom holds, the tuples before i are out, and with the value and one more at digit i the
 -- next round begins. In both, and past the last tuple, what is seen where a round ends is so of each value whose round has ended.
 use Prim.Native.Nat.{ℕ, zero, suc, ◌+◌, ◌*◌, ◌/◌, ◌^◌, ◌<◌, ◌≤◌}
-use Rattle.std.specs.Prelude.{◌≡◌, Bool, false, not, eqb, ltb}
+use Rattle.std.specs.Prelude.{◌≡◌, Bool, false, not, eqb, ltb, if◌then◌else◌}
 use Rattle.std.proofs.Math.Path.{refl, sym, subst}
 use Rattle.std.proofs.Common.{ap, ap₂, subst₂, ◌∙◌, arith, mul-lt-mul_of_pos_right, T_not, eq-eqb, lt-ltb, le-ltb}
 use Rattle.std.proofs.Math.Logic.{⊎_elim}
@@ -11,7 +11,7 @@ use mathlib.Core.List.Memᴰ
 use mathlib.Core.List.{List, [], ◌++◌, Memᴰ}
 use Rattle.std.proofs.Math.Nat.{pow-succ', one-le-pow}
 use Rattle.std.proofs.Math.Dec.{T, eqb→eq, not_T}
-use Rattle.definitions.specs.Lists.{if◌then◌else◌, all, is_some}
+use Rattle.definitions.specs.Lists.{all, is_some}
 use Rattle.definitions.specs.Sheet.Relations.{Tuple}
 use Rattle.definitions.specs.Problem.Truth.{holds, every_tuples, values, is_odd, digit, every_value}
 use Rattle.definitions.specs.Problem.Tree.{Tree, leaf, forall_node, exists_node, and_node, or_node}

@@ -1,5 +1,5 @@
 -- What the actions of an accepted case show on a page: words that fit their columns, and few elements.
-use Rattle.std.specs.Prelude.{ℕ, zero, suc, ◌-◌, ◌*◌, ◌^◌, ◌≤◌, ◌<◌, ◌≡◌, Bool, true, false, not, ◌&&◌, ltb}
+use Rattle.std.specs.Prelude.{ℕ, zero, suc, ◌-◌, ◌*◌, ◌^◌, ◌≤◌, ◌<◌, ◌≡◌, Bool, true, false, not, ◌&&◌, ltb, if◌then◌else◌}
 use Rattle.std.proofs.Common.{sym, ◌∙◌, mul-pos, arith, ltb→lt, length-append, ltb-false}
 use Rattle.std.proofs.Math.Path.{ap, subst}
 use Rattle.std.proofs.Math.Logic.{⊎_elim}
@@ -11,7 +11,7 @@ use Rattle.std.proofs.Math.Dec.{T, leb, leb→le}
 use Rattle.std.proofs.Math.ListN.{length}
 use Rattle.std.proofs.lemmas.Bool.{not-false}
 use Rattle.definitions.specs.Limits.{usual, step_limit}
-use Rattle.definitions.specs.Lists.{if◌then◌else◌, below}
+use Rattle.definitions.specs.Lists.{below}
 use Rattle.definitions.specs.Sheet.Text.{decimal, is_between}
 use Rattle.definitions.specs.Refusal.{Result, accepted, refuse_if}
 use Rattle.definitions.specs.Sheet.Relations.{is_universal}

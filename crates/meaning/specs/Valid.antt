@@ -1,7 +1,7 @@
 -- The problem's actions need, add and remove atoms of the problem only; so taking a step is seen on atoms.
 use Prim.Native.Nat.{ℕ, zero, suc, ◌+◌, ◌*◌, ◌/◌, ◌%◌, ◌^◌, ◌<◌}
 use Rattle.std.proofs.Common.{arith, sym, ◌∙◌, add-zero, zero-add, eqb→eq}
-use Rattle.std.specs.Prelude.{◌≡◌, ◌⊎◌, Bool, ◌&&◌, eqb, get_or}
+use Rattle.std.specs.Prelude.{◌≡◌, ◌⊎◌, Bool, ◌&&◌, eqb, get_or, if◌then◌else◌}
 use Rattle.std.proofs.Math.Path.{refl, ap, subst}
 use Rattle.std.proofs.Math.Logic.{inl, inr, ⊎_elim}
 use Rattle.std.proofs.Math.Bool.{true, false, not}
@@ -13,7 +13,7 @@ use Rattle.std.proofs.Math.Arith.{digits_lt}
 use Rattle.std.proofs.Math.Dec.{T, ltb, T_not, not_T}
 use Rattle.std.proofs.Math.ListN.{length}
 use borrow.Author.Tests.{eq-eqb, ltb-true}
-use Rattle.definitions.specs.Lists.{if◌then◌else◌, any, option, is_some, below, before}
+use Rattle.definitions.specs.Lists.{any, option, is_some, below, before}
 use Rattle.definitions.specs.Sheet.Relations.{Relation, is_universal, is_function, is_injective}
 use Rattle.definitions.specs.Sheet.Sheets.{every_number}
 use Rattle.definitions.specs.Problem.Tree.{Tree, Trees, leaf, forall_node, exists_node, and_node, or_node, end, ◌then◌, nodes, parts_from, parts, is_forall, node_sort}

@@ -2,6 +2,7 @@
 // overlap. A call's number and place come back through two references: 0 and the step count, or a refusal's number and place.
 // What a refusal leaves as it was is left: sizes and an action's details are written only where there are some.
 #![tactic(auto)]
+
 ghost use Rattle.std.specs.Prelude.{◌≡◌, length};
 ghost use Rattle.definitions.specs.Reply.Desk.{desk};
 ghost use Rattle.definitions.specs.Limits.{usual};

@@ -1,6 +1,6 @@
 -- What is written of nodes' actions, and the whole, by the names, the relations by number and the node table. Assumes nothing.
-use Rattle.std.specs.Prelude.{ℕ, zero, suc, ◌+◌, ◌-◌, false, List, [], ◌∷◌, ◌++◌, map, ltb, eqb, get_or, take, set}
-use Rattle.definitions.specs.Lists.{if◌then◌else◌, flat_map, below}
+use Rattle.std.specs.Prelude.{ℕ, zero, suc, ◌+◌, ◌-◌, false, List, [], ◌∷◌, ◌++◌, map, ltb, eqb, get_or, take, set, if◌then◌else◌}
+use Rattle.definitions.specs.Lists.{flat_map, below}
 use Rattle.definitions.specs.Sheet.Text.{bytes}
 use Rattle.definitions.specs.Reply.Pddl.{object_word}
 use Rattle.rule_nodes.specs.declared.PartRow.{PartRow}

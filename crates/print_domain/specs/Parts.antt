@@ -1,6 +1,6 @@
 -- The terms of levels and the parts of nodes by the table are those of the case's tree. Assumes nothing.
 use Prim.Native.Nat.{ℕ, zero, suc, ◌≤◌, ◌<◌}
-use Rattle.std.specs.Prelude.{◌≡◌, Bool, take, set}
+use Rattle.std.specs.Prelude.{◌≡◌, Bool, take, set, if◌then◌else◌}
 use Rattle.std.proofs.Math.Path.{refl, ap, ap₂}
 use Rattle.std.proofs.Common.{sym, subst, ◌∙◌, arith, length-set, take-suc, length-take-le, get_or-set_same, get_or-set_other, eqb-true}
 use Rattle.std.proofs.Math.Bool.{true, false}
@@ -9,7 +9,7 @@ use mathlib.Core.List.{List, [], ◌∷◌, ◌++◌, map, map-append}
 use Rattle.std.proofs.Math.Dec.{eqb}
 use Rattle.std.proofs.Math.ListN.{length, get_or, length-take}
 use Rattle.std.proofs.lemmas.Bool.{eqb-false}
-use Rattle.definitions.specs.Lists.{if◌then◌else◌, option, position}
+use Rattle.definitions.specs.Lists.{option, position}
 use Rattle.definitions.specs.Reply.Lifted.{Term, parameter, object, term_at, with_term}
 use Rattle.laws.specs.Lists.{map_map, map_same, mem_get_or}
 use Rattle.rule_nodes.specs.declared.PartRow.{PartRow}

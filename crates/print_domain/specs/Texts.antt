@@ -1,7 +1,7 @@
 -- What is written of relations and nodes, by the names, the relations by number and the node table. Assumes nothing.
-use Rattle.std.specs.Prelude.{ℕ, zero, suc, ◌+◌, ◌-◌, ◌≤◌, ◌<◌, ◌≡◌, refl, Bool, true, false, List, [], ◌∷◌, ◌++◌, ltb, eqb, length, get_or}
+use Rattle.std.specs.Prelude.{ℕ, zero, suc, ◌+◌, ◌-◌, ◌≤◌, ◌<◌, ◌≡◌, refl, Bool, true, false, List, [], ◌∷◌, ◌++◌, ltb, eqb, length, get_or, if◌then◌else◌}
 use Rattle.std.proofs.Common.{sym, ap, ◌∙◌, arith, add-one, lt-ltb, le-ltb, ne_eqb}
-use Rattle.definitions.specs.Lists.{if◌then◌else◌, flat_map, from, below}
+use Rattle.definitions.specs.Lists.{flat_map, from, below}
 use Rattle.definitions.specs.Sheet.Text.{bytes}
 use Rattle.definitions.specs.Sheet.Formula.{write_each}
 use Rattle.definitions.specs.Reply.Pddl.{parameter_word, indented}

@@ -1,8 +1,8 @@
 // The domain of a case (document 02, job 11) to the byte, from the table of names, the relations by number and the node table.
 #![tactic(auto)]
 
-ghost use Rattle.std.specs.Prelude.{◌≡◌, [], ◌∷◌, ◌+◌, ◌-◌, ◌≤◌, ◌<◌, set};
-ghost use Rattle.definitions.specs.Lists.{if◌then◌else◌, flat_map, from, below};
+ghost use Rattle.std.specs.Prelude.{◌≡◌, [], ◌∷◌, ◌+◌, ◌-◌, ◌≤◌, ◌<◌, set, if◌then◌else◌};
+ghost use Rattle.definitions.specs.Lists.{flat_map, from, below};
 ghost use Rattle.definitions.specs.Sheet.Formula.{write_each};
 ghost use Rattle.definitions.specs.Reply.Pddl.{parameter_word};
 ghost use Rattle.print_bytes.specs.Emitted.{Emits};

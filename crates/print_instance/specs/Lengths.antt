@@ -1,9 +1,10 @@
 -- No instance is longer than numbers reach. Assumes nothing.
+use Rattle.std.specs.Prelude.{if◌then◌else◌}
 use Prim.Native.Nat.{ℕ, zero, suc, ◌+◌, ◌-◌, ◌*◌, ◌^◌, ◌≤◌, ◌<◌}
 use mathlib.Core.List.{List, [], ◌∷◌, ◌++◌, map}
 use native.Mathlib.Omega.{arith}
 use Rattle.std.proofs.Math.ListN.{length, length-append, length-map}
-use Rattle.definitions.specs.Lists.{if◌then◌else◌, flat_map, from, below}
+use Rattle.definitions.specs.Lists.{flat_map, from, below}
 use Rattle.definitions.specs.Sheet.Text.{bytes}
 use Rattle.definitions.specs.Sheet.Formula.{write_each}
 use Rattle.definitions.specs.Problem.Atoms.{places_of}

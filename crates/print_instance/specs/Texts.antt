@@ -1,10 +1,10 @@
 -- What is written of tuples and relations, by the names, the facts' words and the relations by number. Assumes nothing.
-use Rattle.std.specs.Prelude.{ℕ, zero, suc, ◌+◌, ◌-◌, ◌*◌, ◌/◌, ◌%◌, ◌^◌, ◌≤◌, ◌<◌, ◌≡◌, refl, Bool, true, false, not, List, [], ◌∷◌, ◌++◌, map, ltb, get_or}
+use Rattle.std.specs.Prelude.{ℕ, zero, suc, ◌+◌, ◌-◌, ◌*◌, ◌/◌, ◌%◌, ◌^◌, ◌≤◌, ◌<◌, ◌≡◌, refl, Bool, true, false, not, List, [], ◌∷◌, ◌++◌, map, ltb, get_or, if◌then◌else◌}
 use Rattle.std.proofs.Common.{sym, ap, ap₂, subst, ◌∙◌, arith, pow-suc, one-mul, mul-le-mul, le_refl, mod-eq_of_lt, mod-lt, div-one, add-one, lt-ltb, le-ltb}
 use Rattle.std.proofs.lemmas.List.{map-append}
 use Rattle.std.proofs.Math.Nat.{pow-zero}
 use Rattle.std.proofs.Math.Arith.{digits_div, digits_mod}
-use Rattle.definitions.specs.Lists.{if◌then◌else◌, flat_map, from, below}
+use Rattle.definitions.specs.Lists.{flat_map, from, below}
 use Rattle.definitions.specs.Sheet.Text.{bytes}
 use Rattle.definitions.specs.Sheet.Formula.{write_each}
 use Rattle.definitions.specs.Sheet.Relations.{built_in_holds}

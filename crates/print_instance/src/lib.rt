@@ -1,8 +1,8 @@
 // The instance of a case (document 02, job 11) to the byte, from the table of names, the relations by number and the words of facts.
 #![tactic(auto)]
 
-ghost use Rattle.std.specs.Prelude.{◌≡◌, true, false, [], map, ◌+◌, ◌-◌, ◌*◌, ◌^◌, ◌≤◌, ◌<◌};
-ghost use Rattle.definitions.specs.Lists.{if◌then◌else◌, flat_map, from, below};
+ghost use Rattle.std.specs.Prelude.{◌≡◌, true, false, [], map, ◌+◌, ◌-◌, ◌*◌, ◌^◌, ◌≤◌, ◌<◌, if◌then◌else◌};
+ghost use Rattle.definitions.specs.Lists.{flat_map, from, below};
 ghost use Rattle.definitions.specs.Sheet.Formula.{write_each};
 ghost use Rattle.definitions.specs.Sheet.Relations.{built_in_holds};
 ghost use Rattle.definitions.specs.Problem.Atoms.{places_of};

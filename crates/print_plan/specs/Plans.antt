@@ -1,13 +1,13 @@
 -- The lines of steps: what is written where each is an action's, the first that is none, and how long the lines are. Assumes nothing.
 use Prim.Native.Nat.{ℕ, zero, suc, ◌+◌, ◌*◌, ◌/◌, ◌%◌, ◌≤◌, ◌<◌}
-use Rattle.std.specs.Prelude.{◌≡◌, Bool, true, false, leb, ltb, get_or, take, drop}
+use Rattle.std.specs.Prelude.{◌≡◌, Bool, true, false, leb, ltb, get_or, take, drop, if◌then◌else◌}
 use Rattle.std.proofs.Math.Path.{refl, ap}
 use Rattle.std.proofs.Common.{sym, ap₂, subst, ◌∙◌, add-one, drop_of_length-le, drop-cons, length-take-le, get_or-take, ltb-true, ltb-false}
 use Rattle.std.proofs.Math.Option.{Option, none, some}
 use mathlib.Core.List.{List, [], ◌∷◌, ◌++◌, map}
 use native.Mathlib.Omega.{arith}
 use Rattle.std.proofs.Math.ListN.{length, length-append}
-use Rattle.definitions.specs.Lists.{if◌then◌else◌, flat_map, option}
+use Rattle.definitions.specs.Lists.{flat_map, option}
 use Rattle.definitions.specs.Refusal.{refused, accepted, ◌>>=◌, given}
 use Rattle.definitions.specs.Sheet.Text.{bytes, decimal, decimal_in}
 use Rattle.definitions.specs.Sheet.Formula.{write_each}

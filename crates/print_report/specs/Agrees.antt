@@ -1,13 +1,13 @@
 -- The `count` and `pick` lines printed from a signature and words are the definitions' lines, where the signature is that of the
 -- problem's relations and the words hold the picks. Assumes nothing.
 use Prim.Native.Nat.{ℕ, zero, suc, ◌+◌, ◌-◌, ◌*◌, ◌^◌, ◌≤◌, ◌<◌}
-use Rattle.std.specs.Prelude.{◌≡◌, Bool, true, false, ◌&&◌, ltb, get_or}
+use Rattle.std.specs.Prelude.{◌≡◌, Bool, true, false, ◌&&◌, ltb, get_or, if◌then◌else◌}
 use Rattle.std.proofs.Math.Path.{refl, sym, ap, ap₂}
 use Rattle.std.proofs.Common.{◌∙◌, add-zero, zero-add, add-suc, get_or-append-add, lt-ltb, le-ltb}
 use mathlib.Core.List.{List, [], ◌∷◌, ◌++◌}
 use native.Mathlib.Omega.{arith}
 use Rattle.std.proofs.Math.ListN.{length}
-use Rattle.definitions.specs.Lists.{if◌then◌else◌, filter, flat_map, from, below}
+use Rattle.definitions.specs.Lists.{filter, flat_map, from, below}
 use Rattle.definitions.specs.Sheet.Text.{bytes, decimal}
 use Rattle.definitions.specs.Sheet.Relations.{Relation, Tuple, fixed, built_in}
 use Rattle.definitions.specs.Problem.Atoms.{Problem, relation_at, tuples_of, words_for}

@@ -1,12 +1,12 @@
 -- What the desk program prints, case by case: too long an input, the checked and the built plan, and the report's parts with their
 -- length. Assumes nothing.
 use Prim.Native.Nat.{ℕ, ◌+◌, ◌-◌, ◌*◌, ◌≤◌, ◌<◌}
-use Rattle.std.specs.Prelude.{◌≡◌, Bool, true, false, length, take, drop}
+use Rattle.std.specs.Prelude.{◌≡◌, Bool, true, false, length, take, drop, if◌then◌else◌}
 use Rattle.std.proofs.Common.{sym, ◌∙◌, arith, length-append, lt-ltb, le-ltb}
 use Rattle.std.proofs.Math.Path.{ap}
 use mathlib.Core.List.{List, [], ◌∷◌, ◌++◌, map, append_assoc}
 use Rattle.definitions.specs.Limits.{early}
-use Rattle.definitions.specs.Lists.{if◌then◌else◌, flat_map, sum}
+use Rattle.definitions.specs.Lists.{flat_map, sum}
 use Rattle.definitions.specs.Sheet.Text.{bytes, decimal}
 use Rattle.definitions.specs.Refusal.{Result, refused, accepted, ◌>>=◌, refuse_if}
 use Rattle.definitions.specs.Sheet.Relations.{Tuple}

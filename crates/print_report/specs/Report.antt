@@ -1,11 +1,11 @@
 -- The report's `count` and `pick` lines as the code has them: names as spans of the question, picks as bits of words, each `choose`
 -- from a new word on; `say` is how an element is printed. Assumes nothing.
-use Rattle.std.specs.Prelude.{ℕ, suc, ◌+◌, ◌-◌, ◌*◌, ◌/◌, ◌^◌, ◌≤◌, ◌<◌, ◌≡◌, refl, true, false, List, [], ◌∷◌, ◌++◌, map, length, take, drop, get_or}
+use Rattle.std.specs.Prelude.{ℕ, suc, ◌+◌, ◌-◌, ◌*◌, ◌/◌, ◌^◌, ◌≤◌, ◌<◌, ◌≡◌, refl, true, false, List, [], ◌∷◌, ◌++◌, map, length, take, drop, get_or, if◌then◌else◌}
 use Rattle.std.proofs.Math.Path.{sym}
 use Rattle.std.proofs.Common.{ap, ◌∙◌, add-one, le_trans}
 use native.Mathlib.Omega.{arith}
 use Rattle.std.proofs.Math.Nat.{pow-le-pow_left, pow-le-pow_right}
-use Rattle.definitions.specs.Lists.{if◌then◌else◌, flat_map, from, below}
+use Rattle.definitions.specs.Lists.{flat_map, from, below}
 use Rattle.definitions.specs.Sheet.Text.{bytes, decimal}
 use Rattle.definitions.specs.Problem.Atoms.{places_of, words_for}
 use Rattle.definitions.specs.Reply.Desk.{print_line, sizes_line}

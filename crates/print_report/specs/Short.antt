@@ -1,8 +1,8 @@
 -- How long what is printed can be: names and elements have at most 12 bytes, steps of 32 bits at most 10, and any number at most 20.
 -- Assumes nothing.
-use Rattle.std.specs.Prelude.{ℕ, zero, suc, ◌+◌, ◌*◌, ◌/◌, ◌%◌, ◌^◌, ◌≤◌, ◌<◌, ◌≡◌, Bool, true, false, List, [], ◌∷◌, ◌++◌, map, leb, length, get_or}
+use Rattle.std.specs.Prelude.{ℕ, zero, suc, ◌+◌, ◌*◌, ◌/◌, ◌%◌, ◌^◌, ◌≤◌, ◌<◌, ◌≡◌, Bool, true, false, List, [], ◌∷◌, ◌++◌, map, leb, length, get_or, if◌then◌else◌}
 use Rattle.std.proofs.Common.{◌∙◌, add-zero, add_comm, suc-mul, mul-suc, mul-add, mod-lt, arith, length-append}
-use Rattle.definitions.specs.Lists.{if◌then◌else◌, flat_map, from, below, sum}
+use Rattle.definitions.specs.Lists.{flat_map, from, below, sum}
 use Rattle.definitions.specs.Sheet.Text.{bytes, decimal_in, decimal}
 use Rattle.definitions.specs.Problem.Atoms.{places_of}
 use Rattle.definitions.specs.Reply.Outcome.{Sizes}

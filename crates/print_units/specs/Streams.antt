@@ -1,6 +1,6 @@
 -- The bytes of a step's lines, as the code writes them: unit after unit, and where one does not fit the rest of the line, its end, and the blank
 -- columns of the next. Assumes nothing.
-use Rattle.std.specs.Prelude.{ℕ, ◌+◌, ◌-◌, ◌≤◌, ◌<◌, ◌≡◌, refl, Bool, false, List, [], ◌∷◌, ◌++◌, map, get_or, take, drop}
+use Rattle.std.specs.Prelude.{ℕ, ◌+◌, ◌-◌, ◌≤◌, ◌<◌, ◌≡◌, refl, Bool, false, List, [], ◌∷◌, ◌++◌, map, get_or, take, drop, if◌then◌else◌}
 use Rattle.std.proofs.Common.{sym, ◌∙◌, append_assoc, append-nil, length-append, length-drop, get_or-take, length-take-le}
 use Rattle.std.proofs.Math.Path.{ap}
 use Rattle.std.proofs.Math.Bool.{true}
@@ -8,7 +8,7 @@ use native.Mathlib.Omega.{arith}
 use Rattle.std.proofs.Math.Dec.{leb}
 use Rattle.std.proofs.Math.ListN.{length}
 use borrow.Author.Tests.{le-leb, lt-leb}
-use Rattle.definitions.specs.Lists.{if◌then◌else◌, flat_map}
+use Rattle.definitions.specs.Lists.{flat_map}
 use Rattle.definitions.specs.Reply.Page.{spaces, left, packed, headed, ended_line}
 use Rattle.print_units.specs.Units.{part_text, after, units_from, all_units, some_units, no_units, next_unit, last_unit}
 

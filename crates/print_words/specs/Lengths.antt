@@ -1,7 +1,7 @@
 -- How long what is written can be: no text is longer than numbers reach. Assumes nothing.
-use Rattle.std.specs.Prelude.{ℕ, zero, suc, ◌+◌, ◌-◌, ◌*◌, ◌/◌, ◌%◌, ◌≤◌, Bool, true, false, List, [], ◌∷◌, ◌++◌, map, leb, ltb, length, get_or, take, drop}
+use Rattle.std.specs.Prelude.{ℕ, zero, suc, ◌+◌, ◌-◌, ◌*◌, ◌/◌, ◌%◌, ◌≤◌, Bool, true, false, List, [], ◌∷◌, ◌++◌, map, leb, ltb, length, get_or, take, drop, if◌then◌else◌}
 use Rattle.std.proofs.Common.{ap, arith, length-append}
-use Rattle.definitions.specs.Lists.{if◌then◌else◌, flat_map}
+use Rattle.definitions.specs.Lists.{flat_map}
 use Rattle.definitions.specs.Sheet.Text.{bytes, decimal, decimal_in}
 use Rattle.definitions.specs.Sheet.Formula.{write_each}
 use Rattle.definitions.specs.Sheet.Relations.{built_in}

@@ -1,7 +1,6 @@
 -- The action of a number, by the table.
-use Rattle.std.specs.Prelude.{List, ℕ, zero, suc, ◌+◌, ◌-◌, ◌/◌, ◌%◌, ltb, get_or}
+use Rattle.std.specs.Prelude.{List, ℕ, zero, suc, ◌+◌, ◌-◌, ◌/◌, ◌%◌, ltb, get_or, if◌then◌else◌}
 use Rattle.definitions.specs.Problem.Atoms.{Problem}
-use Rattle.definitions.specs.Lists.{if◌then◌else◌}
 use Rattle.problem_table.specs.Lines.{relations_in, every_in, Fits}
 use Rattle.problem_table.specs.Of.{Is}
 use Rattle.problem_table.specs.declared.NodeLine.{NodeLine}

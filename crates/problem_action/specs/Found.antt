@@ -1,5 +1,5 @@
 -- What a search over the starting numbers finds is the action of that number.
-use Rattle.std.specs.Prelude.{◌≡◌, Bool, not, ◌&&◌, List, length}
+use Rattle.std.specs.Prelude.{◌≡◌, Bool, not, ◌&&◌, List, length, if◌then◌else◌}
 use Rattle.std.proofs.Math.Path.{refl, sym, ap, subst}
 use Rattle.std.proofs.Common.{◌∙◌, div-le_self, mod-lt, add-one}
 use Rattle.std.proofs.Math.Bool.{true, false}
@@ -9,7 +9,7 @@ use native.Mathlib.Omega.{arith}
 use borrow.Author.Tests.{lt-ltb, le-ltb, ltb-true, ltb-false}
 use Rattle.std.proofs.Math.Dec.{T, ltb, eqb}
 use Rattle.std.proofs.Math.ListN.{get_or}
-use Rattle.definitions.specs.Lists.{if◌then◌else◌, is_some}
+use Rattle.definitions.specs.Lists.{is_some}
 use Rattle.definitions.specs.Sheet.Relations.{Relation, is_universal}
 use Rattle.definitions.specs.Sheet.Sheets.{every_number}
 use Rattle.definitions.specs.Problem.Tree.{Tree, leaf, forall_node, exists_node, and_node, or_node, parts, node_sort}

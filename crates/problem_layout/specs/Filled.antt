@@ -1,6 +1,5 @@
 -- The numbers of each line, the table that they make, and what is promised of it.
-use Rattle.std.specs.Prelude.{◌≡◌, List, [], ◌∷◌, ◌++◌, ℕ, zero, suc, ◌+◌, ◌*◌, eqb, ltb, length, get_or, take, drop, set}
-use Rattle.definitions.specs.Lists.{if◌then◌else◌}
+use Rattle.std.specs.Prelude.{◌≡◌, List, [], ◌∷◌, ◌++◌, ℕ, zero, suc, ◌+◌, ◌*◌, eqb, ltb, length, get_or, take, drop, set, if◌then◌else◌}
 use Rattle.definitions.specs.Problem.Atoms.{Problem, atoms}
 use Rattle.rule_nodes.specs.Tables.{no_part, no_node}
 use Rattle.rule_nodes.specs.declared.PartRow.{PartRow}

@@ -1,7 +1,7 @@
 -- What is promised of a layout.
-use Rattle.std.specs.Prelude.{◌≡◌, Bool, true, false, ◌&&◌, List, ℕ, zero, suc, ◌+◌, ◌-◌, ◌*◌, ◌^◌, ◌≤◌, ◌<◌, T, eqb, ltb, length, get_or, set}
+use Rattle.std.specs.Prelude.{◌≡◌, Bool, true, false, ◌&&◌, List, ℕ, zero, suc, ◌+◌, ◌-◌, ◌*◌, ◌^◌, ◌≤◌, ◌<◌, T, eqb, ltb, length, get_or, set, if◌then◌else◌}
 use Rattle.bits.specs.Table.{bit}
-use Rattle.definitions.specs.Lists.{if◌then◌else◌, filter, below, greatest}
+use Rattle.definitions.specs.Lists.{filter, below, greatest}
 use Rattle.definitions.specs.Sheet.Relations.{is_function}
 use Rattle.definitions.specs.Problem.Tree.{nodes}
 use Rattle.definitions.specs.Problem.Atoms.{Problem, relation_at, tuples_of, tuple_start, relation_start, node_start, atoms}

@@ -1,5 +1,5 @@
 -- One turn of the loops of a layout.
-use Rattle.std.specs.Prelude.{◌≡◌, Bool, List, ltb, length, set, replicate}
+use Rattle.std.specs.Prelude.{◌≡◌, Bool, List, ltb, length, set, replicate, if◌then◌else◌}
 use Rattle.std.proofs.Math.Path.{refl}
 use Rattle.std.proofs.Common.{sym, ap, ap₂, ◌∙◌, le_trans, add-one, length-set, get_or-set_same, get_or-set_other}
 use Rattle.std.proofs.Math.Bool.{true, false}
@@ -10,7 +10,6 @@ use native.Mathlib.Omega.{arith}
 use borrow.Author.Tests.{lt-ltb, le-ltb}
 use Rattle.std.proofs.Math.ListN.{get_or}
 use Rattle.std.proofs.Math.Seq.{set_out}
-use Rattle.definitions.specs.Lists.{if◌then◌else◌}
 use Rattle.rule_nodes.specs.Tables.{no_node, Fits}
 use Rattle.rule_nodes.specs.declared.Nodes.{Nodes}
 use Rattle.rows.specs.Values.{Most}

@@ -1,11 +1,11 @@
 -- A part's line gives the numbers of the part's atom.
-use Rattle.std.specs.Prelude.{◌≡◌, Bool, List, [], ◌∷◌, map, eqb, length, take}
+use Rattle.std.specs.Prelude.{◌≡◌, Bool, List, [], ◌∷◌, map, eqb, length, take, if◌then◌else◌}
 use Rattle.std.proofs.Math.Path.{refl, ap, ap₂}
 use Rattle.std.proofs.Common.{sym, ◌∙◌, add-mul, mul_assoc, mul-le-mul, arith, eq-eqb, ne_eqb}
 use Rattle.std.proofs.Math.Bool.{true, false}
 use Prim.Native.Nat.{ℕ, zero, suc, ◌+◌, ◌*◌, ◌^◌, ◌≤◌, ◌<◌}
 use Rattle.std.proofs.Math.ListN.{get_or}
-use Rattle.definitions.specs.Lists.{if◌then◌else◌, greatest}
+use Rattle.definitions.specs.Lists.{greatest}
 use Rattle.definitions.specs.Problem.Tree.{Tree, leaf, forall_node, exists_node, and_node, or_node, free}
 use Rattle.definitions.specs.Problem.Atoms.{Problem, row_of, holds_node, atom_number}
 use Rattle.definitions.specs.Problem.Actions.{Values, part_atom}

@@ -1,5 +1,5 @@
 -- Laws of the ranges: how many elements a sort has and the greatest of them, and the ranges of all sorts in a table.
-use Rattle.std.specs.Prelude.{◌≡◌, Bool, true, false, take, drop, set, replicate}
+use Rattle.std.specs.Prelude.{◌≡◌, Bool, true, false, take, drop, set, replicate, if◌then◌else◌}
 use Rattle.std.proofs.Math.Path.{refl, ap, ap₂}
 use Rattle.std.proofs.Common.{sym, ◌∙◌, add-zero, length-append, length-set, take-append-drop}
 use Rattle.std.proofs.Math.Option.{Option, some}
@@ -10,7 +10,7 @@ use Rattle.std.proofs.Math.Decide.{dec_lt}
 use native.Mathlib.Omega.{arith}
 use Rattle.std.proofs.Math.ListN.{length, get_or}
 use Rattle.std.proofs.lemmas.List.Edits.{sets-eq}
-use Rattle.definitions.specs.Lists.{if◌then◌else◌, filter, option, from, below, last, greatest}
+use Rattle.definitions.specs.Lists.{filter, option, from, below, last, greatest}
 use Rattle.bits.specs.Table.{bit}
 use Rattle.laws.specs.Lists.{below_snoc, below_lt, length_below, get_or_mem, filter_mem}
 use Rattle.laws.specs.Members.{greatest_below}

@@ -1,5 +1,5 @@
 -- The sums by the tables are the problem's starts.
-use Rattle.std.specs.Prelude.{◌≡◌, refl, Bool, false, ◌&&◌, ltb, length, get_or, set, take, drop}
+use Rattle.std.specs.Prelude.{◌≡◌, refl, Bool, false, ◌&&◌, ltb, length, get_or, set, take, drop, if◌then◌else◌}
 use Rattle.std.proofs.Math.Path.{sym, ap, ap₂, subst}
 use Rattle.std.proofs.Common.{◌∙◌, length-drop, length-take-le, get_or-set_same, get_or-set_other}
 use Rattle.std.proofs.Math.Bool.{true, false≢true}
@@ -11,7 +11,7 @@ use Rattle.std.proofs.Math.Nat.{one-le-pow}
 use borrow.Author.Tests.{lt-ltb, ltb-true}
 use Rattle.std.proofs.Math.Dec.{eqb}
 use Rattle.std.proofs.lemmas.List.{length-map}
-use Rattle.definitions.specs.Lists.{if◌then◌else◌, sum}
+use Rattle.definitions.specs.Lists.{sum}
 use Rattle.definitions.specs.Sheet.Relations.{Kind, static, plain, Fun, PFun, Inj, PInj, universal, Relation, is_chosen, is_universal, is_function, is_injective}
 use Rattle.definitions.specs.Problem.Tree.{Tree, leaf, forall_node, exists_node, and_node, or_node, parts, is_forall, node_sort}
 use Rattle.definitions.specs.Problem.Atoms.{Problem, relation_at, node_at, relation_start, node_start, last_start, tuple_start, first_tuples, last_tuples, tuples_of, rows_of, node_width as width_of, not_tuple, atom_number, atoms}

@@ -1,5 +1,5 @@
 -- One turn of the loops over parts and nodes, and that marks and atoms are those of the problem.
-use Rattle.std.specs.Prelude.{◌≡◌, Bool, eqb, ltb, set, take, replicate}
+use Rattle.std.specs.Prelude.{◌≡◌, Bool, eqb, ltb, set, take, replicate, if◌then◌else◌}
 use Rattle.std.proofs.Math.Path.{refl, sym, ap, ap₂}
 use Rattle.std.proofs.Common.{subst, ◌∙◌, zero-add, add-one, length-drop, get_or-set_same, get_or-set_other, get_or-drop, take-suc, lt-ltb, le-ltb}
 use Rattle.std.proofs.Math.Bool.{true, false, ◌||◌, or-false, or_assoc}
@@ -9,7 +9,7 @@ use Rattle.std.proofs.Math.Decide.{ℕ_discrete}
 use native.Mathlib.Omega.{arith}
 use Rattle.std.proofs.Math.ListN.{length, get_or, drop, length-set, length-replicate}
 use Rattle.std.proofs.Math.Seq.{drop-cons, drop-nil}
-use Rattle.definitions.specs.Lists.{if◌then◌else◌, any, filter, sum}
+use Rattle.definitions.specs.Lists.{any, filter, sum}
 use Rattle.definitions.specs.Problem.Tree.{Tree, Trees, leaf, forall_node, exists_node, and_node, or_node, end, ◌then◌, Part, parts_from, parts, nodes}
 use Rattle.definitions.specs.Problem.Atoms.{Problem, node_at, node_width as width_of}
 use Rattle.definitions.specs.Reply.Allowance.{mentions, mentions_in, allowance}

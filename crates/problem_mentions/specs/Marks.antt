@@ -1,6 +1,5 @@
 -- Marks by the tables: which nodes have a literal of relation r below them, found from the last node up, and the atoms of these.
-use Rattle.std.specs.Prelude.{Bool, false, ◌||◌, List, ℕ, zero, suc, ◌+◌, ◌-◌, ◌^◌, eqb, ltb, get_or, set, replicate}
-use Rattle.definitions.specs.Lists.{if◌then◌else◌}
+use Rattle.std.specs.Prelude.{Bool, false, ◌||◌, List, ℕ, zero, suc, ◌+◌, ◌-◌, ◌^◌, eqb, ltb, get_or, set, replicate, if◌then◌else◌}
 use Rattle.rule_nodes.specs.Tables.{no_node, no_part}
 use Rattle.rule_nodes.specs.declared.PartRow.{PartRow}
 use Rattle.rule_nodes.specs.declared.Nodes.{Nodes}

@@ -1,8 +1,7 @@
 // Which nodes of a table have a literal of a relation somewhere below them, and how many atoms these have.
 #![tactic(auto)]
 
-ghost use Rattle.std.specs.Prelude.{◌≡◌, ◌||◌, List, ℕ, ◌≤◌, ◌<◌, eqb, ltb};
-ghost use Rattle.definitions.specs.Lists.{if◌then◌else◌};
+ghost use Rattle.std.specs.Prelude.{◌≡◌, ◌||◌, List, ℕ, ◌≤◌, ◌<◌, eqb, ltb, if◌then◌else◌};
 ghost use Rattle.definitions.specs.Reply.Allowance.{allowance as «allowance_of»};
 ghost use Rattle.definitions.specs.Problem.Atoms.{Problem};
 ghost use Rattle.meaning.specs.Means.{Good};

@@ -1,6 +1,6 @@
 -- A problem without its rule: the same relations, and no node. What is asked of lent picks is the same for both.
 use Prim.Native.Nat.{ℕ, zero, suc, ◌+◌, ◌-◌, ◌*◌, ◌^◌, ◌≤◌, ◌<◌, min}
-use Rattle.std.specs.Prelude.{◌≡◌, Bool, length, drop, get_or, set, replicate}
+use Rattle.std.specs.Prelude.{◌≡◌, Bool, length, drop, get_or, set, replicate, if◌then◌else◌}
 use Rattle.std.proofs.Math.Path.{refl, ap, ap₂, fun_ext}
 use Rattle.std.proofs.Common.{sym, subst, ◌∙◌, arith}
 use Rattle.std.proofs.Math.Bool.{true, false}
@@ -9,7 +9,7 @@ use mathlib.Core.List.{List, [], ◌∷◌, map}
 use Rattle.definitions.specs.Sheet.Sheets.{relations, relations_of}
 use Rattle.definitions.specs.Problem.Truth.{Case}
 use Rattle.bits.specs.Table.{bit}
-use Rattle.definitions.specs.Lists.{if◌then◌else◌, option, position, below, sum}
+use Rattle.definitions.specs.Lists.{option, position, below, sum}
 use Rattle.definitions.specs.Sheet.Relations.{is_chosen, is_universal, built_in}
 use Rattle.definitions.specs.Problem.Tree.{leaf, nodes}
 use Rattle.definitions.specs.Problem.Atoms.{Problem, relation_at, tuples_of, tuple_start, relation_start, node_start, problem_of, problem_with}

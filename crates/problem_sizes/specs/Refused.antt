@@ -1,5 +1,5 @@
 -- The refusal by size is that of grounding the case, and where there is none the counts are the problem's.
-use Rattle.std.specs.Prelude.{◌≡◌, Bool, ◌&&◌, ◌||◌}
+use Rattle.std.specs.Prelude.{◌≡◌, Bool, ◌&&◌, ◌||◌, if◌then◌else◌}
 use Rattle.std.proofs.Math.Path.{refl, ap}
 use Rattle.std.proofs.Common.{sym, ◌∙◌, arith}
 use Rattle.std.proofs.Math.Bool.{true, false}
@@ -9,7 +9,7 @@ use Prim.Native.Nat.{ℕ, zero, ◌^◌, ◌<◌, ◌≤◌}
 use Rattle.std.proofs.Math.Decide.{dec_lt}
 use borrow.Author.Tests.{lt-ltb, le-ltb, ltb-false, le-leb, leb-false}
 use Rattle.std.proofs.Math.Dec.{ltb, leb}
-use Rattle.definitions.specs.Lists.{if◌then◌else◌, option, is_some}
+use Rattle.definitions.specs.Lists.{option, is_some}
 use Rattle.definitions.specs.Limits.{CaseLimits}
 use Rattle.definitions.specs.Refusal.{refused, accepted, ◌>>=◌, refuse_if}
 use Rattle.definitions.specs.Sheet.Relations.{Relation}

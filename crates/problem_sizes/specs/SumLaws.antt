@@ -1,5 +1,5 @@
 -- One turn of the loops of a tally, and that the sums are those of the walk.
-use Rattle.std.specs.Prelude.{◌≡◌, Bool, not, ltb, take}
+use Rattle.std.specs.Prelude.{◌≡◌, Bool, not, ltb, take, if◌then◌else◌}
 use Rattle.std.proofs.Math.Path.{refl, sym, ap, ap₂, subst}
 use Rattle.std.proofs.Common.{◌∙◌, mul-le-mul, lt-ltb, le-leb, add-one, take_all}
 use Rattle.std.proofs.Math.Bool.{true, false}
@@ -11,7 +11,7 @@ use Rattle.std.proofs.lemmas.Bool.{lt-leb}
 use Rattle.std.proofs.Math.Dec.{T, eqb}
 use native.Mathlib.Omega.{arith}
 use Rattle.std.proofs.Math.ListN.{length, get_or}
-use Rattle.definitions.specs.Lists.{if◌then◌else◌, option, is_some, flat_map, map_from, sum}
+use Rattle.definitions.specs.Lists.{option, is_some, flat_map, map_from, sum}
 use Rattle.definitions.specs.Sheet.Relations.{Relation, fixed, is_universal}
 use Rattle.definitions.specs.Sheet.Sheets.{every_number}
 use Rattle.definitions.specs.Problem.Truth.{every_tuples, values}

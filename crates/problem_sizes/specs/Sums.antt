@@ -1,6 +1,5 @@
 -- What is promised of a tally.
-use Rattle.std.specs.Prelude.{◌≡◌, List, ◌&&◌, ◌||◌, ℕ, ◌+◌, ◌-◌, ◌*◌, ◌^◌, leb, ltb, get_or}
-use Rattle.definitions.specs.Lists.{if◌then◌else◌}
+use Rattle.std.specs.Prelude.{◌≡◌, List, ◌&&◌, ◌||◌, ℕ, ◌+◌, ◌-◌, ◌*◌, ◌^◌, leb, ltb, get_or, if◌then◌else◌}
 use Rattle.definitions.specs.Problem.Atoms.{Problem}
 use Rattle.definitions.specs.Reply.Tally.{tally_of}
 use Rattle.rule_nodes.specs.declared.Nodes.{Nodes}

@@ -1,6 +1,6 @@
 -- The lines of a table of numbers, and what keeps indexes and sums in range.
-use Rattle.std.specs.Prelude.{◌≡◌, Bool, ◌&&◌, ◌||◌, List, [], ◌∷◌, map, ℕ, ◌+◌, ◌-◌, ◌*◌, ◌^◌, ◌≤◌, ◌<◌, T, eqb, ltb, length, get_or}
-use Rattle.definitions.specs.Lists.{if◌then◌else◌, below}
+use Rattle.std.specs.Prelude.{◌≡◌, Bool, ◌&&◌, ◌||◌, List, [], ◌∷◌, map, ℕ, ◌+◌, ◌-◌, ◌*◌, ◌^◌, ◌≤◌, ◌<◌, T, eqb, ltb, length, get_or, if◌then◌else◌}
+use Rattle.definitions.specs.Lists.{below}
 use Rattle.definitions.specs.Problem.Actions.{Values}
 use Rattle.rule_nodes.specs.Tables.{Levels}
 use Rattle.rows.specs.Values.{value_in, weighed}

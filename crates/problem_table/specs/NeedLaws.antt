@@ -1,5 +1,5 @@
 -- Laws of tests of lists of bits.
-use Rattle.std.specs.Prelude.{◌≡◌, Bool, ◌&&◌, eqb, length, take}
+use Rattle.std.specs.Prelude.{◌≡◌, Bool, ◌&&◌, eqb, length, take, if◌then◌else◌}
 use Rattle.std.proofs.Math.Path.{refl, ap, subst}
 use Rattle.std.proofs.Common.{sym, ◌∙◌, mul-le-mul}
 use Rattle.std.proofs.Math.Bool.{true, false}
@@ -11,7 +11,7 @@ use borrow.Author.Tests.{lt-ltb, le-ltb, ltb-true, ne_eqb}
 use Rattle.std.proofs.Math.Dec.{ltb}
 use Rattle.std.proofs.Math.ListN.{get_or}
 use Rattle.std.proofs.lemmas.List.{length-map}
-use Rattle.definitions.specs.Lists.{if◌then◌else◌, all, option, filter, from, below, last, before}
+use Rattle.definitions.specs.Lists.{all, option, filter, from, below, last, before}
 use Rattle.definitions.specs.Problem.Atoms.{places_of}
 use Rattle.definitions.specs.Problem.Actions.{Values, values_in, with_value}
 use Rattle.laws.specs.Lists.{length_below, get_or_below}

@@ -1,6 +1,6 @@
 -- The numbers of the atoms that an action needs, adds and removes, by the table.
-use Rattle.std.specs.Prelude.{Bool, not, ◌&&◌, ◌||◌, List, [], ◌∷◌, map, ℕ, ◌+◌, ◌-◌, ◌*◌, ◌/◌, ◌%◌, ◌^◌, ◌≤◌, ◌<◌, ltb, eqb, take, get_or}
-use Rattle.definitions.specs.Lists.{if◌then◌else◌, any, option, from, before}
+use Rattle.std.specs.Prelude.{Bool, not, ◌&&◌, ◌||◌, List, [], ◌∷◌, map, ℕ, ◌+◌, ◌-◌, ◌*◌, ◌/◌, ◌%◌, ◌^◌, ◌≤◌, ◌<◌, ltb, eqb, take, get_or, if◌then◌else◌}
+use Rattle.definitions.specs.Lists.{any, option, from, before}
 use Rattle.definitions.specs.Problem.Atoms.{places_of}
 use Rattle.definitions.specs.Problem.Actions.{Values, values_in, with_value}
 use Rattle.problem_table.specs.Lines.{size_in, ranges_place, relation_line, last_line, has_every, node_line, nodes_in, is_placeless, part_at, range_in}

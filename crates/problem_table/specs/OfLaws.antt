@@ -1,5 +1,5 @@
 -- The numbers by the table are those of the problem's atoms.
-use Rattle.std.specs.Prelude.{◌≡◌, Bool, not, ◌&&◌, ◌||◌, drop}
+use Rattle.std.specs.Prelude.{◌≡◌, Bool, not, ◌&&◌, ◌||◌, drop, if◌then◌else◌}
 use Rattle.std.proofs.Math.Path.{refl, sym, ap, ap₂, subst}
 use Rattle.std.proofs.Common.{◌∙◌, drop-cons}
 use Rattle.std.proofs.Math.Bool.{true, false}
@@ -13,7 +13,7 @@ use Rattle.std.proofs.Math.Arith.{digits_lt}
 use Rattle.std.proofs.Math.ListN.{length, get_or, take, length-map, get_or-map}
 use Rattle.std.proofs.Math.Dec.{T, ltb, eqb}
 use borrow.Author.Tests.{lt-ltb, le-ltb, ltb-true, ltb-false, eqb-true}
-use Rattle.definitions.specs.Lists.{if◌then◌else◌, all, option, is_some, from, below, before}
+use Rattle.definitions.specs.Lists.{all, option, is_some, from, below, before}
 use Rattle.definitions.specs.Sheet.Relations.{Relation, Kind, static, plain, Fun, PFun, Inj, PInj, universal, is_chosen, is_universal, is_function, is_injective}
 use Rattle.definitions.specs.Sheet.Sheets.{every_number}
 use Rattle.definitions.specs.Problem.Truth.{every_tuples}

@@ -2,8 +2,8 @@
 // adds and removes. Nothing is listed, and an action costs its own parts.
 #![tactic(auto)]
 
-ghost use Rattle.std.specs.Prelude.{◌≡◌, false, [], ◌∷◌, map, suc, ◌+◌, ◌-◌, ◌*◌, ◌/◌, ◌^◌, ◌<◌, ◌≤◌, min, ltb, length, take as «take_of»};
-ghost use Rattle.definitions.specs.Lists.{if◌then◌else◌, all, option, from, below, before};
+ghost use Rattle.std.specs.Prelude.{◌≡◌, false, [], ◌∷◌, map, suc, ◌+◌, ◌-◌, ◌*◌, ◌/◌, ◌^◌, ◌<◌, ◌≤◌, min, ltb, length, take as «take_of», if◌then◌else◌};
+ghost use Rattle.definitions.specs.Lists.{all, option, from, below, before};
 ghost use Rattle.definitions.specs.Reply.Outcome.{written};
 ghost use Rattle.bits.specs.Table.{bit, Words};
 ghost use Rattle.rows.specs.Values.{value_in, Most};

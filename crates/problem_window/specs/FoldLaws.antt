@@ -1,5 +1,5 @@
 -- One turn of the loops over parts and nodes, and that the numbers are those of the problem's window.
-use Rattle.std.specs.Prelude.{◌≡◌, Bool, set, take, drop, replicate}
+use Rattle.std.specs.Prelude.{◌≡◌, Bool, set, take, drop, replicate, if◌then◌else◌}
 use Rattle.std.proofs.Math.Path.{refl, sym, ap, ap₂}
 use Rattle.std.proofs.Common.{subst, ◌∙◌, add-one, length-drop, get_or-drop, take-suc, length-take-le, lt-ltb, le-ltb, eq-eqb, ne_eqb}
 use Rattle.std.proofs.Math.Bool.{true, false}
@@ -12,7 +12,6 @@ use Rattle.std.proofs.Math.Dec.{eqb, ltb}
 use Rattle.std.proofs.Math.ListN.{length, get_or, length-set, length-replicate}
 use Rattle.std.proofs.lemmas.List.{length-map}
 use Rattle.std.proofs.Math.Seq.{get_or-set_same, get_or-set_other}
-use Rattle.definitions.specs.Lists.{if◌then◌else◌}
 use Rattle.definitions.specs.Problem.Tree.{Tree, Trees, leaf, forall_node, exists_node, and_node, or_node, end, ◌then◌, Part, parts_from, parts, nodes, node_sort}
 use Rattle.definitions.specs.Problem.Atoms.{Problem, node_at}
 use Rattle.definitions.specs.Reply.Layers.{Window, most, fewest, wider, window, windows, case_window}

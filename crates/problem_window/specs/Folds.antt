@@ -1,6 +1,5 @@
 -- The window by the tables: the numbers of every node, found from the last node up.
-use Rattle.std.specs.Prelude.{List, ℕ, zero, suc, ◌+◌, ◌-◌, max, min, eqb, ltb, get_or, set, replicate}
-use Rattle.definitions.specs.Lists.{if◌then◌else◌}
+use Rattle.std.specs.Prelude.{List, ℕ, zero, suc, ◌+◌, ◌-◌, max, min, eqb, ltb, get_or, set, replicate, if◌then◌else◌}
 use Rattle.rule_nodes.specs.Tables.{no_node, no_part}
 use Rattle.rule_nodes.specs.declared.PartRow.{PartRow}
 use Rattle.rule_nodes.specs.declared.Nodes.{Nodes}

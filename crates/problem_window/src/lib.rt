@@ -1,8 +1,7 @@
 // The window of a case by one pass over its node table: how many layers its plans have at the least, and the built ones at the most.
 #![tactic(auto)]
 
-ghost use Rattle.std.specs.Prelude.{◌≡◌, List, ℕ, ◌^◌, ◌≤◌, ◌<◌, max, min, eqb, ltb};
-ghost use Rattle.definitions.specs.Lists.{if◌then◌else◌};
+ghost use Rattle.std.specs.Prelude.{◌≡◌, List, ℕ, ◌^◌, ◌≤◌, ◌<◌, max, min, eqb, ltb, if◌then◌else◌};
 ghost use Rattle.definitions.specs.Problem.Atoms.{Problem};
 ghost use Rattle.definitions.specs.Reply.Layers.{case_window};
 ghost use Rattle.meaning.specs.Means.{Good};

@@ -1,4 +1,5 @@
 -- A step line by its first five bytes, its digits and its end.
+use Rattle.std.specs.Prelude.{if◌then◌else◌}
 use Prim.Native.Nat.{ℕ, zero, suc, ◌+◌, ◌≤◌, ◌<◌}
 use mathlib.Core.Path.{◌≡◌, refl, sym, ap, subst, ◌∙◌}
 use mathlib.Core.Bool.{Bool, true, false, ◌&&◌}
@@ -9,7 +10,7 @@ use lib.Dec.{leb}
 use lib.ListN.{length}
 use lib.Seq.{slice}
 use borrow.Author.Tests.{leb-true}
-use Rattle.definitions.specs.Lists.{if◌then◌else◌, all, same, option}
+use Rattle.definitions.specs.Lists.{all, same, option}
 use Rattle.definitions.specs.Sheet.Text.{split, on_first, is_between, is_digit, no_leading_zero, decimal_value, number}
 use Rattle.definitions.specs.Sheet.Sheets as S
 use Rattle.laws.specs.Booleans.{T_of, and_both}

@@ -1,4 +1,5 @@
 -- Laws of fields and entries.
+use Rattle.std.specs.Prelude.{if◌then◌else◌}
 use Prim.Native.Nat.{ℕ, zero, suc, ◌+◌, ◌≤◌, ◌<◌}
 use mathlib.Core.Path.{◌≡◌, refl, sym, ap, subst, ◌∙◌}
 use mathlib.Core.Bool.{Bool, true, false}
@@ -10,7 +11,7 @@ use lib.Dec.{eqb, leb-suc-suc}
 use lib.ListN.{length}
 use lib.Seq.{slice, length-slice}
 use borrow.Author.Tests.{le-leb, lt-leb, ne_eqb}
-use Rattle.definitions.specs.Lists.{if◌then◌else◌, same, option, is_empty}
+use Rattle.definitions.specs.Lists.{same, option, is_empty}
 use Rattle.definitions.specs.Sheet.Text.{split, fields, lines_from, is_between, number, is_relation_name}
 use Rattle.definitions.specs.Sheet.Relations.{plain, Fun, PFun, Inj, PInj}
 use Rattle.definitions.specs.Refusal.{given}

@@ -1,8 +1,8 @@
 -- What the code's answers say, in the words of the definitions: numbers, fields, elements, entries.
-use Rattle.std.specs.Prelude.{ℕ, zero, suc, ◌+◌, ◌≤◌, ◌<◌, ◌≡◌, Bool, true, false, List, [], ◌∷◌, eqb, length}
+use Rattle.std.specs.Prelude.{ℕ, zero, suc, ◌+◌, ◌≤◌, ◌<◌, ◌≡◌, Bool, true, false, List, [], ◌∷◌, eqb, length, if◌then◌else◌}
 use Rattle.std.proofs.Math.Option.{Option, none, some}
 use Rattle.std.proofs.Math.Seq.{slice}
-use Rattle.definitions.specs.Lists.{if◌then◌else◌, option, same}
+use Rattle.definitions.specs.Lists.{option, same}
 use Rattle.definitions.specs.Sheet.Text.{Line, split, is_between, number, is_relation_name}
 use Rattle.definitions.specs.Refusal.{given}
 use Rattle.definitions.specs.Sheet.Sheets as S

@@ -1,4 +1,5 @@
 -- Laws of looking a relation up by its name: one relation more, the built-in ones before those declared, arities, kinds and sorts.
+use Rattle.std.specs.Prelude.{if◌then◌else◌}
 use Prim.Native.Nat.{ℕ, zero, suc, ◌+◌, ◌-◌, ◌≤◌, ◌<◌}
 use mathlib.Core.Path.{◌≡◌, refl, sym, ap, ap₂, ◌∙◌}
 use mathlib.Core.Bool.{Bool, true, false, ◌&&◌, ◌||◌, and-true, and-false}
@@ -10,7 +11,7 @@ use lib.Dec.{eqb}
 use lib.ListN.{length, get_or}
 use lib.Seq.{slice, get_or-append-add}
 use borrow.Author.Tests.{eq-eqb, ne_eqb}
-use Rattle.definitions.specs.Lists.{if◌then◌else◌, same, any, option, listed, position}
+use Rattle.definitions.specs.Lists.{same, any, option, listed, position}
 use Rattle.definitions.specs.Sheet.Relations.{Relation, static, fixed, built_in, number_of, is_declared}
 use Rattle.definitions.specs.Sheet.Sheets.{relations}
 use Rattle.definitions.specs.Sheet.Formula.{type_number}

@@ -2,14 +2,14 @@
 -- type's name is not. Assumes nothing.
 use Prim.Native.Nat.{ℕ, zero, suc, ◌+◌, ◌≤◌, ◌<◌}
 use native.Mathlib.Omega.{arith}
-use Rattle.std.specs.Prelude.{◌≡◌, Bool, ◌||◌, List, [], ◌∷◌, drop}
+use Rattle.std.specs.Prelude.{◌≡◌, Bool, ◌||◌, List, [], ◌∷◌, drop, if◌then◌else◌}
 use Rattle.std.proofs.Math.Path.{refl, sym, ap}
 use Rattle.std.proofs.Common.{◌∙◌}
 use Rattle.std.proofs.Math.Bool.{true, false}
 use Rattle.std.proofs.Math.Option.{Option, none, some}
 use Rattle.std.proofs.Math.ListN.{get_or}
 use Rattle.std.proofs.Math.Seq.{slice}
-use Rattle.definitions.specs.Lists.{if◌then◌else◌, same, any, option, position}
+use Rattle.definitions.specs.Lists.{same, any, option, position}
 use Rattle.definitions.specs.Sheet.Text.{is_relation_name, is_variable}
 use Rattle.definitions.specs.Sheet.Formula.{Quantified, is_quantified, type_number, sort_named, sort_of, is_type, has_type}
 use Rattle.laws.specs.Writing.{and_r}

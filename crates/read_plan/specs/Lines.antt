@@ -1,5 +1,5 @@
 -- The lines of a plan from a place on, as far as they are read; and their steps, as far as they are written. Assumes nothing.
-use Rattle.std.specs.Prelude.{ℕ, ◌+◌, ◌-◌, ◌≤◌, ◌<◌, ◌≡◌, Bool, true, false, eqb, ltb, get_or}
+use Rattle.std.specs.Prelude.{ℕ, ◌+◌, ◌-◌, ◌≤◌, ◌<◌, ◌≡◌, Bool, true, false, eqb, ltb, get_or, if◌then◌else◌}
 use Rattle.std.proofs.Math.Path.{refl, sym, ap, ap₂, subst}
 use Rattle.std.proofs.Common.{◌∙◌, arith, lt-ltb, le-ltb, ltb-true, ltb-false}
 use Rattle.std.proofs.Math.Option.{Option, none, some}
@@ -7,7 +7,7 @@ use mathlib.Core.List.{List, [], ◌∷◌, ◌++◌, append_assoc, append-nil}
 use Rattle.std.proofs.Math.ListN.{length, set, length-append}
 use Rattle.std.proofs.Math.Seq.{slice, length-slice}
 use Rattle.definitions.specs.Limits.{text_limit}
-use Rattle.definitions.specs.Lists.{if◌then◌else◌, all, is_some, is_empty}
+use Rattle.definitions.specs.Lists.{all, is_some, is_empty}
 use Rattle.definitions.specs.Sheet.Text.{Line, split, lines, lines_from}
 use Rattle.definitions.specs.Refusal.{Result, refused, accepted, ◌>>=◌, refuse_if, given, read_lines, read_text}
 use Rattle.definitions.specs.Problem.Truth.{Case}

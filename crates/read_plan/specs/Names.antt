@@ -1,5 +1,5 @@
 -- The name that a plan's word is: the only name that it may be, read off its bytes, and whether it is that one. Assumes nothing.
-use Rattle.std.specs.Prelude.{ℕ, zero, suc, ◌+◌, ◌-◌, ◌≤◌, ◌<◌, ◌⊎◌, Bool, not, ◌&&◌, eqb, take, drop}
+use Rattle.std.specs.Prelude.{ℕ, zero, suc, ◌+◌, ◌-◌, ◌≤◌, ◌<◌, ◌⊎◌, Bool, not, ◌&&◌, eqb, take, drop, if◌then◌else◌}
 use Rattle.std.proofs.Math.Path.{◌≡◌, refl, sym, ap}
 use Rattle.std.proofs.Common.{ap₂, subst, ◌∙◌, inl, inr, take_at}
 use Rattle.std.proofs.Math.Bool.{true, false}
@@ -11,7 +11,7 @@ use Rattle.std.proofs.Math.Dec.{T, ltb}
 use Rattle.std.proofs.Math.ListN.{length, get_or, length-append}
 use Rattle.std.proofs.Math.Seq.{get_or-append-add}
 use borrow.Author.Tests.{le-ltb, ne_eqb}
-use Rattle.definitions.specs.Lists.{if◌then◌else◌, all, option, find, same}
+use Rattle.definitions.specs.Lists.{all, option, find, same}
 use Rattle.definitions.specs.Sheet.Text.{bytes, is_capital, is_between, number, decimal}
 use Rattle.definitions.specs.Problem.Truth.{Case}
 use Rattle.definitions.specs.Reply.Lifted.{ActionName, set_name, begin_name, goal_name, and_name, exists_name, first_name, next_name, or_name, relation_in, action_names}

@@ -1,5 +1,5 @@
 -- The objects of a plan's line, and the row of the first of them. Assumes nothing.
-use Rattle.std.specs.Prelude.{ℕ, zero, suc, ◌+◌, ◌*◌, ◌^◌, ◌≤◌, ◌<◌, eqb, ltb, get_or, set}
+use Rattle.std.specs.Prelude.{ℕ, zero, suc, ◌+◌, ◌*◌, ◌^◌, ◌≤◌, ◌<◌, eqb, ltb, get_or, set, if◌then◌else◌}
 use Rattle.std.proofs.Math.Path.{◌≡◌, refl, sym, ap}
 use Rattle.std.proofs.Common.{◌∙◌, add-one, mul-le-mul, take-suc-set}
 use Rattle.std.proofs.Math.Option.{Option, none, some}
@@ -9,7 +9,7 @@ use Rattle.std.proofs.Math.Nat.{pow-le-pow_left, pow-le-pow_right}
 use Rattle.std.proofs.Math.ListN.{length, take, length-set, length-append}
 use Rattle.std.proofs.Math.Seq.{slice, length-take-le}
 use borrow.Author.Tests.{eq-eqb, ne_eqb, lt-ltb, le-ltb}
-use Rattle.definitions.specs.Lists.{if◌then◌else◌, all, option}
+use Rattle.definitions.specs.Lists.{all, option}
 use Rattle.definitions.specs.Sheet.Text.{split, number}
 use Rattle.definitions.specs.Problem.Atoms.{row_of}
 use Rattle.definitions.specs.Reply.Pddl.{small, folded, object_from, objects_from}

@@ -2,14 +2,14 @@
 use Prim.Native.Nat.{ℕ, zero, suc, ◌+◌, ◌-◌, ◌≤◌, ◌<◌}
 use Rattle.std.proofs.Math.Path.{◌≡◌, refl, ap}
 use Rattle.std.proofs.Common.{sym, ap₂, ◌∙◌, inl, ⊎_elim, arith}
-use Rattle.std.specs.Prelude.{◌⊎◌, Bool, ◌&&◌, ◌||◌, eqb, leb, length, get_or}
+use Rattle.std.specs.Prelude.{◌⊎◌, Bool, ◌&&◌, ◌||◌, eqb, leb, length, get_or, if◌then◌else◌}
 use Rattle.std.proofs.Math.Bool.{true, false}
 use Rattle.std.proofs.Math.Option.{Option, none, some}
 use mathlib.Core.List.{List, [], ◌∷◌, ◌++◌, map, map-append}
 use Rattle.std.proofs.lemmas.List.{length-map}
 use Rattle.std.proofs.Math.Seq.{slice}
 use borrow.Author.Tests.{le-leb, lt-leb, ne_eqb, leb-true}
-use Rattle.definitions.specs.Lists.{if◌then◌else◌, all, option}
+use Rattle.definitions.specs.Lists.{all, option}
 use Rattle.definitions.specs.Sheet.Text.{split, on_first, is_between, is_capital, is_digit, is_small, number}
 use Rattle.definitions.specs.Reply.Pddl.{small, folded, is_word_byte, is_word, closed, words_in}
 use Rattle.laws.specs.Booleans.{T_of}

@@ -1,12 +1,12 @@
 -- The step of a line's words. Assumes nothing.
-use Rattle.std.specs.Prelude.{ℕ, zero, suc, ◌+◌, ◌≤◌, ◌<◌, ◌≡◌, Bool, true, false, length, take, replicate}
+use Rattle.std.specs.Prelude.{ℕ, zero, suc, ◌+◌, ◌≤◌, ◌<◌, ◌≡◌, Bool, true, false, length, take, replicate, if◌then◌else◌}
 use Rattle.std.proofs.Math.Path.{refl, sym, ap, subst}
 use Rattle.std.proofs.Common.{◌∙◌, ne_eqb}
 use Rattle.std.proofs.Math.Option.{Option, none, some}
 use mathlib.Core.List.{List, [], ◌∷◌, Memᴰ}
 use native.Mathlib.Omega.{arith}
 use Rattle.std.proofs.Math.Seq.{slice}
-use Rattle.definitions.specs.Lists.{if◌then◌else◌, option, find}
+use Rattle.definitions.specs.Lists.{option, find}
 use Rattle.definitions.specs.Sheet.Text.{split}
 use Rattle.definitions.specs.Sheet.Relations.{is_chosen, is_universal}
 use Rattle.definitions.specs.Problem.Truth.{Case}

@@ -1,6 +1,6 @@
 -- The number by the table is that of the step that a name and objects are. Assumes nothing.
 use Prim.Native.Nat.{ℕ, zero, suc, ◌+◌, ◌*◌, ◌^◌, ◌≤◌, ◌<◌}
-use Rattle.std.specs.Prelude.{◌≡◌, Bool, true, false, T, eqb, ltb, length, take}
+use Rattle.std.specs.Prelude.{◌≡◌, Bool, true, false, T, eqb, ltb, length, take, if◌then◌else◌}
 use Rattle.std.proofs.Math.Path.{refl, sym, ap, ap₂, subst}
 use Rattle.std.proofs.Common.{◌∙◌, eqb→eq, take-take, length-take-le, lt-ltb}
 use Rattle.std.proofs.Math.Option.{Option, none, some}
@@ -8,7 +8,7 @@ use mathlib.Core.List.{List, [], Memᴰ}
 use native.Mathlib.Omega.{arith}
 use Rattle.std.proofs.Math.ListN.{get_or}
 use Rattle.std.proofs.Math.Seq.{get_or-take}
-use Rattle.definitions.specs.Lists.{if◌then◌else◌, option, is_some, below, rank}
+use Rattle.definitions.specs.Lists.{option, is_some, below, rank}
 use Rattle.definitions.specs.Sheet.Relations.{is_chosen, is_universal, is_function}
 use Rattle.definitions.specs.Problem.Truth.{Case}
 use Rattle.definitions.specs.Problem.Tree.{Tree, Trees, exists_node, forall_node, and_node, or_node, how_many, node_sort, free}

@@ -1,12 +1,12 @@
 -- Words of a span, one after another. Assumes nothing.
-use Rattle.std.specs.Prelude.{ℕ, ◌+◌, ◌-◌, ◌≤◌, ◌<◌, ◌≡◌, Bool, ◌&&◌, List, [], ◌∷◌, map, eqb, ltb, length, get_or}
+use Rattle.std.specs.Prelude.{ℕ, ◌+◌, ◌-◌, ◌≤◌, ◌<◌, ◌≡◌, Bool, ◌&&◌, List, [], ◌∷◌, map, eqb, ltb, length, get_or, if◌then◌else◌}
 use Rattle.std.proofs.Math.Path.{refl, sym, ap}
 use Rattle.std.proofs.Common.{◌∙◌, inl, arith}
 use Rattle.std.proofs.Math.Bool.{true, false}
 use Rattle.std.proofs.Math.Option.{none, some}
 use Rattle.std.proofs.Math.Seq.{slice}
 use borrow.Author.Tests.{eq-eqb, ne_eqb, ltb-true, ltb-false}
-use Rattle.definitions.specs.Lists.{if◌then◌else◌, all, is_some, is_empty}
+use Rattle.definitions.specs.Lists.{all, is_some, is_empty}
 use Rattle.definitions.specs.Sheet.Text.{split}
 use Rattle.definitions.specs.Reply.Pddl.{small, folded, is_word_byte, is_word, words_in}
 use Rattle.read_text.specs.Spans.{index_of}

@@ -1,4 +1,5 @@
 -- The loop over a question's lines up to its rule.
+use Rattle.std.specs.Prelude.{if◌then◌else◌}
 use Prim.Native.Nat.{ℕ, zero, suc, ◌+◌, ◌≤◌, ◌<◌}
 use mathlib.Core.Path.{◌≡◌, refl, sym, ap, subst, ◌∙◌}
 use mathlib.Core.Bool.{Bool, true, false, not, ◌||◌, or-false}
@@ -10,7 +11,7 @@ use lib.ListN.{length}
 use lib.Seq.{slice}
 use borrow.Author.Tests.{eq-eqb, ne_eqb, eqb-true, eqb-false, not-false}
 use Rattle.definitions.specs.Limits.{text_limit}
-use Rattle.definitions.specs.Lists.{if◌then◌else◌, all, is_empty, is_some}
+use Rattle.definitions.specs.Lists.{all, is_empty, is_some}
 use Rattle.definitions.specs.Refusal.{Result, refused, accepted, ◌>>=◌, refuse_if, given, read_text}
 use Rattle.definitions.specs.Sheet.Text.{is_relation_name}
 use Rattle.definitions.specs.Sheet.Relations.{static, Relation, varying}

@@ -1,4 +1,5 @@
 -- What a line before the rule gets.
+use Rattle.std.specs.Prelude.{if◌then◌else◌}
 use Prim.Native.Nat.{ℕ, zero, suc, ◌+◌, ◌≤◌, ◌<◌}
 use mathlib.Core.Path.{◌≡◌, refl, sym, ap, subst, ◌∙◌}
 use mathlib.Core.Bool.{Bool, true, false, not, ◌&&◌, ◌||◌}
@@ -9,7 +10,7 @@ use native.Mathlib.Omega.{arith}
 use lib.Dec.{eqb, leb}
 use lib.Seq.{slice}
 use borrow.Author.Tests.{eq-eqb, ne_eqb, eqb-true, leb-false, not-false}
-use Rattle.definitions.specs.Lists.{if◌then◌else◌, all, any, same, option, position}
+use Rattle.definitions.specs.Lists.{all, any, same, option, position}
 use Rattle.definitions.specs.Sheet.Text.{is_relation_name}
 use Rattle.definitions.specs.Sheet.Relations.{is_declared}
 use Rattle.definitions.specs.Sheet.Formula.{type_number, sort_named, is_type}

@@ -1,8 +1,8 @@
 -- A line's tests in order: the first that fails gives the number.
+use Rattle.std.specs.Prelude.{if◌then◌else◌}
 use Prim.Native.Nat.{ℕ, zero, suc}
 use mathlib.Core.Path.{◌≡◌, refl, ap}
 use mathlib.Core.Bool.{Bool, true, false}
-use Rattle.definitions.specs.Lists.{if◌then◌else◌}
 use Rattle.definitions.specs.Refusal.{Result, refused, ◌>>=◌, refuse_if}
 
 -- the result, unless a number refuses the line

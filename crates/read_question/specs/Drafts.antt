@@ -1,8 +1,8 @@
 -- What the reader of the question answers, in the words of the definitions.
-use Rattle.std.specs.Prelude.{ℕ, zero, suc, ◌+◌, ◌≤◌, ◌<◌, ◌≡◌, Bool, not, ◌||◌, List, eqb, leb, length, set, replicate}
+use Rattle.std.specs.Prelude.{ℕ, zero, suc, ◌+◌, ◌≤◌, ◌<◌, ◌≡◌, Bool, not, ◌||◌, List, eqb, leb, length, set, replicate, if◌then◌else◌}
 use Rattle.std.proofs.Math.Option.{none, some}
 use Rattle.std.proofs.Math.Seq.{slice}
-use Rattle.definitions.specs.Lists.{if◌then◌else◌, all}
+use Rattle.definitions.specs.Lists.{all}
 use Rattle.definitions.specs.Sheet.Text.{is_relation_name}
 use Rattle.definitions.specs.Sheet.Formula.{is_type}
 use Rattle.definitions.specs.Refusal.{Result, refused, accepted, ◌>>=◌, given}

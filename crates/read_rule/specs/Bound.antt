@@ -1,14 +1,14 @@
 -- A quantifier's variables, as they were read and as the scope takes them; the whole field. Assumes nothing.
 use Prim.Native.Nat.{ℕ, zero, suc, ◌+◌, ◌-◌, ◌*◌, ◌≤◌, ◌<◌}
 use Rattle.std.proofs.Common.{sub-one, arith, subst, ◌∙◌, length-drop, take-append-drop, drop-drop, leb-true, leb-false, lt-ltb, le-ltb}
-use Rattle.std.specs.Prelude.{◌≡◌, Bool, not, ◌&&◌, ◌||◌, eqb, leb, ltb}
+use Rattle.std.specs.Prelude.{◌≡◌, Bool, not, ◌&&◌, ◌||◌, eqb, leb, ltb, if◌then◌else◌}
 use Rattle.std.proofs.Math.Path.{refl, sym, ap}
 use Rattle.std.proofs.Math.Option.{Option, none, some}
 use Rattle.std.proofs.Math.Bool.{true, false}
 use mathlib.Core.List.{List, [], ◌∷◌, ◌++◌, append_assoc, append-nil}
 use Rattle.std.proofs.Math.ListN.{length, drop, length-append}
 use Rattle.std.proofs.Math.Seq.{slice}
-use Rattle.definitions.specs.Lists.{option, if◌then◌else◌}
+use Rattle.definitions.specs.Lists.{option}
 use Rattle.definitions.specs.Sheet.Text.{is_relation_name, is_variable, is_small, is_between, is_digit}
 use Rattle.definitions.specs.Sheet.Relations.{Relation}
 use Rattle.definitions.specs.Sheet.Formula.{Quantified, variables_of, Formula, Quant, quant, AllQuantified, is_quantified, no_words, a_word, write_each, write_typed, write_more, write, is_scoped, is_known, is_typed, nesting, forms, all_forms, totals}

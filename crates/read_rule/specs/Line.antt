@@ -1,9 +1,9 @@
 -- The number that `rule_verdict` gives is the one that the definitions' `addRule` refuses with. Assumes nothing.
-use Rattle.std.specs.Prelude.{ℕ, ◌+◌, ◌≡◌, refl, Bool, true, false, not, ◌||◌, List, [], eqb, ltb}
+use Rattle.std.specs.Prelude.{ℕ, ◌+◌, ◌≡◌, refl, Bool, true, false, not, ◌||◌, List, [], eqb, ltb, if◌then◌else◌}
 use Rattle.std.proofs.Math.Option.{Option, none, some}
 use Rattle.std.proofs.Common.{eq-eqb}
 use Rattle.definitions.specs.Limits.{form_limit, nesting_limit}
-use Rattle.definitions.specs.Lists.{if◌then◌else◌, is_empty, option}
+use Rattle.definitions.specs.Lists.{is_empty, option}
 use Rattle.definitions.specs.Refusal.{Result, refused, accepted, ◌>>=◌, refuse_if, given}
 use Rattle.definitions.specs.Sheet.Formula.{Formula, all_forms, nesting, is_known, is_scoped, is_typed}
 use Rattle.definitions.specs.Sheet.Parsing.{read_formula}

@@ -1,8 +1,8 @@
 -- What the code's answers mean. Definitions only.
-use Rattle.std.specs.Prelude.{ℕ, zero, suc, ◌+◌, ◌-◌, ◌*◌, ◌≤◌, ◌≡◌, Bool, true, false, not, ◌&&◌, ◌||◌, List, [], ◌∷◌, ◌++◌, length, drop, get_or, eqb, leb, ltb}
+use Rattle.std.specs.Prelude.{ℕ, zero, suc, ◌+◌, ◌-◌, ◌*◌, ◌≤◌, ◌≡◌, Bool, true, false, not, ◌&&◌, ◌||◌, List, [], ◌∷◌, ◌++◌, length, drop, get_or, eqb, leb, ltb, if◌then◌else◌}
 use Rattle.std.proofs.Math.Seq.{slice}
 use Rattle.definitions.specs.Limits.{form_limit, nesting_limit}
-use Rattle.definitions.specs.Lists.{if◌then◌else◌, all, any, option}
+use Rattle.definitions.specs.Lists.{all, any, option}
 use Rattle.read_text.specs.Spans.{kind_of}
 use Rattle.read_names.specs.Signatures.{has_arity}
 use Rattle.definitions.specs.Sheet.Relations.{Relation, is_total}

@@ -4,13 +4,13 @@ use Rattle.std.proofs.Math.Nat.{sub-zero}
 use Rattle.std.proofs.Common.{add-one, sym, ◌∙◌, length-append, get_or-set_same, get_or-set_other, lit≤}
 use Rattle.std.proofs.Math.Numerals.{sub-one}
 use native.Mathlib.Omega.{arith}
-use Rattle.std.specs.Prelude.{◌≡◌, Bool, false, not, ◌&&◌, length, drop, get_or, set, eqb, leb}
+use Rattle.std.specs.Prelude.{◌≡◌, Bool, false, not, ◌&&◌, length, drop, get_or, set, eqb, leb, if◌then◌else◌}
 use Rattle.std.proofs.Math.Path.{refl, ap}
 use Rattle.std.proofs.Math.Bool.{true, and-true, and-false, and_assoc}
 use mathlib.Core.List.{List, [], ◌∷◌, ◌++◌, append_assoc}
 use Rattle.std.proofs.Math.Seq.{slice}
 use borrow.Author.Tests.{ne_eqb, le-leb, lt-leb, leb-false, lt-ltb, le-ltb}
-use Rattle.definitions.specs.Lists.{any, same, filter, if◌then◌else◌}
+use Rattle.definitions.specs.Lists.{any, same, filter}
 use Rattle.definitions.specs.Sheet.Relations.{Relation, is_total}
 use Rattle.definitions.specs.Sheet.Formula.{is_bound, are_new, totals}
 use Rattle.definitions.specs.Sheet.Parsing.{span}

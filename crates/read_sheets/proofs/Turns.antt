@@ -1,4 +1,5 @@
 -- One line of a site and of picks.
+use Rattle.std.specs.Prelude.{if◌then◌else◌}
 use Prim.Native.Nat.{ℕ, zero, suc, ◌+◌, ◌*◌, ◌^◌, ◌≤◌, ◌<◌}
 use mathlib.Core.Path.{◌≡◌, refl, sym, ap, ap₂, subst, ◌∙◌}
 use mathlib.Core.Bool.{Bool, true, false, not, ◌||◌}
@@ -13,7 +14,7 @@ use borrow.Author.Tests.{eq-eqb, ne_eqb, eqb-true, eqb-false, le-leb, lt-leb, le
 use Rattle.laws.specs.Writing.{and_l, and_r}
 use Rattle.definitions.specs.Limits.{CaseLimits}
 use Rattle.definitions.specs.Sheet.Text.{is_between, is_relation_name}
-use Rattle.definitions.specs.Lists.{if◌then◌else◌, any, is_empty}
+use Rattle.definitions.specs.Lists.{any, is_empty}
 use Rattle.definitions.specs.Refusal.{Result, refused, accepted, ◌>>=◌, refuse_if, given}
 use Rattle.definitions.specs.Sheet.Relations.{Tuple, built_in}
 use Rattle.definitions.specs.Sheet.Formula.{type_number}

@@ -1,8 +1,8 @@
 -- What the readers of a site, of picks and of steps answer and leave, by what the definitions read.
-use Rattle.std.specs.Prelude.{ℕ, zero, suc, ◌+◌, ◌*◌, ◌^◌, ◌≤◌, ◌<◌, ◌≡◌, Bool, false, not, ◌||◌, List, [], eqb, length, get_or}
+use Rattle.std.specs.Prelude.{ℕ, zero, suc, ◌+◌, ◌*◌, ◌^◌, ◌≤◌, ◌<◌, ◌≡◌, Bool, false, not, ◌||◌, List, [], eqb, length, get_or, if◌then◌else◌}
 use Rattle.std.proofs.Math.Option.{Option, none, some}
 use Rattle.definitions.specs.Limits.{CaseLimits, text_limit}
-use Rattle.definitions.specs.Lists.{if◌then◌else◌, is_empty}
+use Rattle.definitions.specs.Lists.{is_empty}
 use Rattle.definitions.specs.Sheet.Text.{is_between}
 use Rattle.definitions.specs.Refusal.{Result, refused, accepted, ◌>>=◌, given}
 use Rattle.definitions.specs.Sheet.Relations.{Tuple}

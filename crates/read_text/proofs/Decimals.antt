@@ -1,4 +1,5 @@
 -- Laws of `number`: what a scan over a span uses.
+use Rattle.std.specs.Prelude.{if◌then◌else◌}
 use Prim.Native.Nat.{ℕ, zero, suc, ◌+◌, ◌-◌, ◌*◌, ◌^◌, ◌≤◌, ◌<◌}
 use mathlib.Core.Path.{◌≡◌, refl, ap, ◌∙◌}
 use mathlib.Core.Bool.{Bool, true, false, ◌&&◌}
@@ -10,7 +11,7 @@ use lib.Dec.{leb}
 use lib.ListN.{length, get_or}
 use lib.Seq.{slice, length-slice}
 use borrow.Author.Tests.{eq-eqb, ne_eqb, le-leb, lt-leb}
-use Rattle.definitions.specs.Lists.{if◌then◌else◌, all}
+use Rattle.definitions.specs.Lists.{all}
 use Rattle.definitions.specs.Sheet.Text.{is_between, is_digit, decimal_value, no_leading_zero, number}
 use Rattle.read_text.proofs.Laws.{slice_next, slice_done}
 

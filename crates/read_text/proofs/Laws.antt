@@ -1,4 +1,5 @@
 -- Laws of spans and of `split`: a scan a byte at a time, the pieces of a span by the place of its first separator, equal spans.
+use Rattle.std.specs.Prelude.{if◌then◌else◌}
 use Prim.Native.Nat.{ℕ, zero, suc, ◌+◌, ◌-◌, ◌≤◌, ◌<◌}
 use mathlib.Core.Path.{◌≡◌, refl, sym, ap, ap₂, ◌∙◌}
 use mathlib.Core.Bool.{Bool, true, false, and-false}
@@ -11,7 +12,7 @@ use lib.Dec.{eqb}
 use lib.ListN.{take-append-drop, length, take, drop, get_or, length-drop, drop_of_length-le}
 use lib.Seq.{slice, slice-cons, slice_empty, length-slice, get_or-drop, get_or-take, take-length, take_all, take-nil, take-take, drop-drop, drop-cons}
 use borrow.Author.Tests.{eq-eqb, ne_eqb}
-use Rattle.definitions.specs.Lists.{if◌then◌else◌, same}
+use Rattle.definitions.specs.Lists.{same}
 use Rattle.definitions.specs.Sheet.Text.{split, on_first}
 use Rattle.read_text.specs.Spans.{index_of}
 

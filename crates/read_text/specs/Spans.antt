@@ -1,7 +1,6 @@
 -- Where a byte first stands; bytes of names; numbers, places and kinds as the code gives them.
-use Rattle.std.specs.Prelude.{ℕ, zero, suc, Bool, ◌||◌, List, [], ◌∷◌, eqb}
+use Rattle.std.specs.Prelude.{ℕ, zero, suc, Bool, ◌||◌, List, [], ◌∷◌, eqb, if◌then◌else◌}
 use Rattle.std.proofs.Math.Option.{Option, none, some}
-use Rattle.definitions.specs.Lists.{if◌then◌else◌}
 use Rattle.definitions.specs.Sheet.Relations.{Kind, static, plain, Fun, PFun, Inj, PInj, universal}
 use Rattle.definitions.specs.Sheet.Text.{is_capital, is_digit}
 use Rattle.read_text.specs.declared.Num.{Num}

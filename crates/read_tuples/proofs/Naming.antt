@@ -1,4 +1,5 @@
 -- Labels as words: the element of a name, what fields mean by it, and one label more.
+use Rattle.std.specs.Prelude.{if◌then◌else◌}
 use Prim.Native.Nat.{ℕ, zero, suc, ◌+◌, ◌-◌, ◌*◌, ◌≤◌, ◌<◌}
 use mathlib.Core.Path.{◌≡◌, refl, sym, ap, ap₂, subst, ◌∙◌}
 use mathlib.Core.Logic.{⊎_elim, inl, inr}
@@ -11,7 +12,7 @@ use lib.Dec.{T, eqb, ltb, not_T}
 use lib.ListN.{length, get_or, set, length-set}
 use lib.Seq.{slice, length-slice, get_or-set_same, get_or-set_other}
 use borrow.Author.Tests.{lt-ltb, le-ltb, ltb-true, eq-eqb, ne_eqb, eqb-false, not-true}
-use Rattle.definitions.specs.Lists.{if◌then◌else◌, all, same, option, is_empty}
+use Rattle.definitions.specs.Lists.{all, same, option, is_empty}
 use Rattle.definitions.specs.Sheet.Text.{split, is_relation_name}
 use Rattle.definitions.specs.Refusal.{refused, accepted, ◌>>=◌, refuse_if, given}
 use Rattle.definitions.specs.Sheet.Sheets as D

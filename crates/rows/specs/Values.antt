@@ -1,6 +1,5 @@
 -- Values of levels in an array, and the weight of a level in a row.
-use Rattle.std.specs.Prelude.{List, [], ◌∷◌, ℕ, ◌+◌, ◌*◌, ◌^◌, ◌≤◌, ◌<◌, eqb, length, get_or}
-use Rattle.definitions.specs.Lists.{if◌then◌else◌}
+use Rattle.std.specs.Prelude.{List, [], ◌∷◌, ℕ, ◌+◌, ◌*◌, ◌^◌, ◌≤◌, ◌<◌, eqb, length, get_or, if◌then◌else◌}
 use Rattle.definitions.specs.Problem.Actions.{Values}
 
 unfoldable pub value_in : List ℕ → Values

@@ -1,4 +1,5 @@
 -- Laws of the loops over a part's levels and over the marked levels. Assumes nothing.
+use Rattle.std.specs.Prelude.{if◌then◌else◌}
 use Prim.Native.Nat.{ℕ, suc, ◌+◌, ◌-◌, ◌≤◌, ◌<◌}
 use native.Mathlib.Numerals.{add-one}
 use native.Mathlib.Decide.{ℕ_discrete}
@@ -11,7 +12,7 @@ use lib.ListN.{length, get_or, take, drop, set, length-take, length-set, length-
 use lib.Seq.{drop-cons, get_or-take, get_or-set_same, get_or-set_other}
 use lib.Dec.{eqb, ltb}
 use borrow.Author.Tests.{eq-eqb, ne_eqb, lt-ltb, le-ltb}
-use Rattle.definitions.specs.Lists.{if◌then◌else◌, any, filter, from, below}
+use Rattle.definitions.specs.Lists.{any, filter, from, below}
 use Rattle.rule_nodes.specs.Postorder.{pad}
 use Rattle.rule_nodes.specs.Pass.{levels_of, listed_of}
 use Rattle.rule_nodes.specs.Free.{pad_more}

@@ -3,11 +3,11 @@ use Prim.Native.Nat.{ℕ, zero, suc, ◌+◌, ◌≤◌, ◌<◌, zero-le}
 use Rattle.std.proofs.Common.{le_of_suc-le-suc, not-suc-le-zero, sym, ◌∙◌, eq-eqb, ne_eqb}
 use Rattle.std.proofs.Math.Decide.{dec_lt}
 use native.Mathlib.Omega.{arith}
-use Rattle.std.specs.Prelude.{◌≡◌, Bool, ◌&&◌, ◌||◌, List, [], ◌∷◌, ◌++◌, take, set, eqb, ltb}
+use Rattle.std.specs.Prelude.{◌≡◌, Bool, ◌&&◌, ◌||◌, List, [], ◌∷◌, ◌++◌, take, set, eqb, ltb, if◌then◌else◌}
 use Rattle.std.proofs.Math.Path.{refl, ap}
 use Rattle.std.proofs.Math.Bool.{true, false, not, or-false}
 use Rattle.std.proofs.Math.ListN.{length, get_or}
-use Rattle.definitions.specs.Lists.{if◌then◌else◌, any, filter, from, below}
+use Rattle.definitions.specs.Lists.{any, filter, from, below}
 use Rattle.definitions.specs.Problem.Tree.{Tree, Trees, leaf, forall_node, exists_node, and_node, or_node, end, ◌then◌, occurs, occurs_in, free, parts_from, nodes}
 use Rattle.rule_nodes.specs.Postorder.{pad, part_of, heads, Small, AllSmall, quant_row, join_row}
 use Rattle.rule_nodes.specs.Pass.{has_level, is_own, free_with}

@@ -1,8 +1,8 @@
 -- The pass over the rows: what each does to the stack of parts without a parent and to the table. Definitions only.
-use Rattle.std.specs.Prelude.{ℕ, ◌+◌, ◌-◌, ◌≤◌, ◌<◌, Bool, true, false, not, ◌&&◌, List, [], ◌∷◌, ◌++◌, length, get_or, set, take, drop, replicate, eqb, ltb}
+use Rattle.std.specs.Prelude.{ℕ, ◌+◌, ◌-◌, ◌≤◌, ◌<◌, Bool, true, false, not, ◌&&◌, List, [], ◌∷◌, ◌++◌, length, get_or, set, take, drop, replicate, eqb, ltb, if◌then◌else◌}
 use Rattle.std.proofs.lemmas.List.Edits.{sets}
 use Rattle.definitions.specs.Limits.{nesting_limit}
-use Rattle.definitions.specs.Lists.{if◌then◌else◌, any, filter, below}
+use Rattle.definitions.specs.Lists.{any, filter, below}
 use Rattle.rule_nodes.specs.declared.PartRow.{PartRow}
 use Rattle.rule_nodes.specs.declared.NodeRow.{NodeRow}
 use Rattle.rule_nodes.specs.Postorder.{pad}

@@ -2,8 +2,8 @@
 // tree's rows in postorder, in one pass with a stack of parts that have no parent yet.
 #![tactic(auto)]
 
-ghost use Rattle.std.specs.Prelude.{◌≡◌, false, not, ◌&&◌, ◌||◌, ℕ, ◌≤◌, ◌<◌, length, get_or, eqb};
-ghost use Rattle.definitions.specs.Lists.{if◌then◌else◌, filter, below};
+ghost use Rattle.std.specs.Prelude.{◌≡◌, false, not, ◌&&◌, ◌||◌, ℕ, ◌≤◌, ◌<◌, length, get_or, eqb, if◌then◌else◌};
+ghost use Rattle.definitions.specs.Lists.{filter, below};
 ghost use Rattle.definitions.specs.Problem.Tree.{Tree};
 ghost use Rattle.rule_nodes.specs.Tables.{IsTable, Fits};
 ghost use Rattle.rule_nodes.specs.Postorder.{rows_in, row_at, rows_from, with_row};

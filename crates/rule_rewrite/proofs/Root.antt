@@ -1,4 +1,5 @@
 -- The root: totalities, the joining `and`, and what an accepted rule leaves for its table. Assumes nothing.
+use Rattle.std.specs.Prelude.{if◌then◌else◌}
 use Prim.Native.Nat.{ℕ, zero, suc, ◌+◌, ◌-◌, ◌*◌, ◌≤◌, ◌<◌}
 use native.Mathlib.Numerals.{add-one}
 use native.Mathlib.Omega.{arith}
@@ -11,7 +12,7 @@ use lib.Seq.{slice}
 use lib.Dec.{eqb, ltb}
 use borrow.Author.Tests.{ltb-false, ne_eqb}
 use Rattle.definitions.specs.Limits.{form_limit, nesting_limit}
-use Rattle.definitions.specs.Lists.{if◌then◌else◌, filter, option}
+use Rattle.definitions.specs.Lists.{filter, option}
 use Rattle.definitions.specs.Sheet.Relations.{Relation, built_in, is_total}
 use Rattle.definitions.specs.Sheet.Formula.{Formula, ands, forms, nesting, is_known, is_scoped, is_typed, all_forms, totals}
 use Rattle.definitions.specs.Sheet.Parsing.{read_formula}

@@ -1,7 +1,7 @@
 -- What the walk asks of a place of the text, and what it gives. Definitions only.
-use Rattle.std.specs.Prelude.{ℕ, zero, suc, ◌+◌, ◌≤◌, ◌≡◌, Bool, true, false, List, ◌∷◌, ◌++◌, map, length, drop, take, set, eqb}
+use Rattle.std.specs.Prelude.{ℕ, zero, suc, ◌+◌, ◌≤◌, ◌≡◌, Bool, true, false, List, ◌∷◌, ◌++◌, map, length, drop, take, set, eqb, if◌then◌else◌}
 use Rattle.std.proofs.Math.Seq.{slice}
-use Rattle.definitions.specs.Lists.{if◌then◌else◌, same, option, position}
+use Rattle.definitions.specs.Lists.{same, option, position}
 use Rattle.definitions.specs.Sheet.Relations.{Relation}
 use Rattle.definitions.specs.Sheet.Formula.{Quantified, variables_of, Formula, Formulas, write, write_vars, write_typed, write_more, write_list, write_parts}
 use Rattle.definitions.specs.Sheet.Formula.{WellFormed, AllWellFormed, Variables, AllQuantified, type_number, sort_of, Join, ands, ors, Quant, somes, everys}

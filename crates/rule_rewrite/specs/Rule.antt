@@ -1,8 +1,7 @@
 -- A rule that was accepted, its totalities, and the question that its table is of. Definitions only.
-use Rattle.std.specs.Prelude.{ℕ, ◌+◌, ◌≤◌, ◌≡◌, true, List, [], ◌∷◌, length}
+use Rattle.std.specs.Prelude.{ℕ, ◌+◌, ◌≤◌, ◌≡◌, true, List, [], ◌∷◌, length, if◌then◌else◌}
 use Rattle.std.proofs.Math.Option.{some}
 use Rattle.std.proofs.Math.Seq.{slice}
-use Rattle.definitions.specs.Lists.{if◌then◌else◌}
 use Rattle.definitions.specs.Sheet.Relations.{is_total}
 use Rattle.definitions.specs.Sheet.Formula.{Formula}
 use Rattle.definitions.specs.Sheet.Parsing.{read_formula}

@@ -1,10 +1,10 @@
 -- A round's end by the table: what it is and its number, the marks after it and theirs, and how many rounds there are.
 use Prim.Native.Nat.{ℕ, zero, suc, ◌+◌, ◌-◌, ◌*◌, ◌/◌, ◌%◌, ◌^◌, ◌<◌, ◌≤◌}
-use Rattle.std.specs.Prelude.{◌≡◌, Bool, true, false, List, ◌∷◌, T, ltb, length}
+use Rattle.std.specs.Prelude.{◌≡◌, Bool, true, false, List, ◌∷◌, T, ltb, length, if◌then◌else◌}
 use Rattle.std.proofs.Math.Path.{refl}
 use Rattle.std.proofs.Common.{sym, ap, subst, ◌∙◌, add-one, mod-eq_of_lt, one-mul, pow_pos, pow_mono, ltb→lt}
 use native.Mathlib.Omega.{arith}
-use Rattle.definitions.specs.Lists.{if◌then◌else◌, all}
+use Rattle.definitions.specs.Lists.{all}
 use Rattle.definitions.specs.Sheet.Relations.{Relation, is_universal}
 use Rattle.definitions.specs.Sheet.Sheets.{every_number}
 use Rattle.definitions.specs.Problem.Truth.{every_tuples}

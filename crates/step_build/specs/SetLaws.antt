@@ -1,12 +1,12 @@
 -- Setting the picks, step by step.
 use Prim.Native.Nat.{ℕ, zero, suc, ◌+◌, ◌-◌, ◌*◌, ◌<◌, ◌≤◌}
-use Rattle.std.specs.Prelude.{◌≡◌, Bool, true, false, length}
+use Rattle.std.specs.Prelude.{◌≡◌, Bool, true, false, length, if◌then◌else◌}
 use Rattle.std.proofs.Math.Path.{refl, sym, ap, subst, fun_ext}
 use Rattle.std.proofs.Common.{◌∙◌, add-one}
 use mathlib.Core.List.{List, Memᴰ}
 use native.Mathlib.Omega.{arith}
 use Rattle.bits.specs.Table.{bit}
-use Rattle.definitions.specs.Lists.{if◌then◌else◌, rank}
+use Rattle.definitions.specs.Lists.{rank}
 use Rattle.definitions.specs.Sheet.Relations.{is_chosen, Relation}
 use Rattle.definitions.specs.Problem.Atoms.{Problem, relation_at}
 use Rattle.definitions.specs.Problem.Actions.{set, set_rows as settableRows, sets_of, set_start, action_number}

@@ -1,6 +1,5 @@
 -- Setting the picks as folds over the builder's progress.
-use Rattle.std.specs.Prelude.{ℕ, zero, suc, ◌-◌, ◌*◌, Bool, get_or}
-use Rattle.definitions.specs.Lists.{if◌then◌else◌}
+use Rattle.std.specs.Prelude.{ℕ, zero, suc, ◌-◌, ◌*◌, Bool, get_or, if◌then◌else◌}
 use Rattle.definitions.specs.Sheet.Relations.{is_chosen}
 use Rattle.definitions.specs.Problem.Atoms.{Problem, relation_at}
 use Rattle.definitions.specs.Problem.Actions.{set, set_rows as settableRows, sets_of}

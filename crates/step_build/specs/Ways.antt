@@ -1,14 +1,14 @@
 -- The builder's way is a list of actions, taken and written one by one: those of the built steps.
 use Prim.Native.Nat.{ℕ, zero, suc, ◌+◌, ◌<◌}
 use Rattle.std.proofs.Common.{add-zero, zero-add, ap₂, subst, ◌∙◌}
-use Rattle.std.specs.Prelude.{◌≡◌, Bool, T, length}
+use Rattle.std.specs.Prelude.{◌≡◌, Bool, T, length, if◌then◌else◌}
 use Rattle.std.proofs.Math.Path.{refl, sym, ap}
 use Rattle.std.proofs.Math.Bool.{true, false}
 use mathlib.Core.List.{List, [], ◌∷◌, ◌++◌, map, Memᴰ}
 use native.Mathlib.Omega.{arith}
 use Rattle.std.proofs.Math.ListN.{get_or}
 use Rattle.std.proofs.lemmas.List.Edits.{sets}
-use Rattle.definitions.specs.Lists.{if◌then◌else◌, filter, flat_map, from, below}
+use Rattle.definitions.specs.Lists.{filter, flat_map, from, below}
 use Rattle.definitions.specs.Sheet.Relations.{Tuple, is_chosen}
 use Rattle.definitions.specs.Problem.Atoms.{Problem, State, relation_at, tuples_of}
 use Rattle.definitions.specs.Problem.Actions.{Action, set, is_settable, set_rows as settableRows, sets_of, action_number}

@@ -1,9 +1,8 @@
 -- What running layers from the initial state answers and leaves; the test of the ends.
 use Prim.Native.Nat.{ℕ, suc, ◌*◌, ◌-◌, ◌<◌, ◌≤◌}
-use Rattle.std.specs.Prelude.{◌≡◌, Bool, true, false, List, [], ◌∷◌, eqb, length, get_or, take, drop}
+use Rattle.std.specs.Prelude.{◌≡◌, Bool, true, false, List, [], ◌∷◌, eqb, length, get_or, take, drop, if◌then◌else◌}
 use Rattle.std.proofs.Math.Path.{refl, sym, ap, subst}
 use Rattle.std.proofs.Common.{◌∙◌, arith, lt-ltb, le-ltb, eq-eqb, ne_eqb, drop_of_length-le, drop-cons}
-use Rattle.definitions.specs.Lists.{if◌then◌else◌}
 use Rattle.definitions.specs.Refusal.{Result, refused, accepted, refuse_if, ◌>>=◌}
 use Rattle.definitions.specs.Problem.Atoms.{Problem, State, initial, atoms, state_words}
 use Rattle.definitions.specs.Problem.Strips.{run}

@@ -1,5 +1,5 @@
 -- Layers taken one after another from a state on.
-use Rattle.std.specs.Prelude.{◌≡◌, ◌⊎◌, Bool, true, false, ℕ, suc, ◌+◌, ◌-◌, ◌<◌, ◌≤◌, length, get_or, drop}
+use Rattle.std.specs.Prelude.{◌≡◌, ◌⊎◌, Bool, true, false, ℕ, suc, ◌+◌, ◌-◌, ◌<◌, ◌≤◌, length, get_or, drop, if◌then◌else◌}
 use Rattle.std.proofs.Math.Path.{refl, ap, subst}
 use Rattle.std.proofs.Common.{sym, ◌∙◌, arith, drop_of_length-le, length-drop, drop-cons, drop-drop, take-add, length-take-le}
 use Rattle.std.proofs.Math.Logic.{inl, inr, ⊎_elim}
@@ -7,7 +7,7 @@ use Rattle.std.proofs.lemmas.Bool.{false≢true}
 use Rattle.std.proofs.Math.Option.{Option, none, some}
 use mathlib.Core.List.{List, [], ◌∷◌, ◌++◌, append_assoc, append-nil}
 use Rattle.std.proofs.Math.ListN.{take}
-use Rattle.definitions.specs.Lists.{if◌then◌else◌, option}
+use Rattle.definitions.specs.Lists.{option}
 use Rattle.definitions.specs.Refusal.{Result, refused, accepted}
 use Rattle.definitions.specs.Problem.Atoms.{Problem, State, atom_number}
 use Rattle.definitions.specs.Problem.Actions.{Action}

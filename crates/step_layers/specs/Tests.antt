@@ -1,6 +1,6 @@
 -- What the code tests of a step, and what it answers of a layer.
-use Rattle.std.specs.Prelude.{Bool, true, false, List, ℕ, eqb}
-use Rattle.definitions.specs.Lists.{if◌then◌else◌, all, option}
+use Rattle.std.specs.Prelude.{Bool, true, false, List, ℕ, eqb, if◌then◌else◌}
+use Rattle.definitions.specs.Lists.{all, option}
 use Rattle.definitions.specs.Problem.Atoms.{Problem, State}
 use Rattle.definitions.specs.Problem.Actions.{action_at}
 use Rattle.definitions.specs.Problem.Strips.{may_take}

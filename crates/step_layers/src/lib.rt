@@ -2,8 +2,8 @@
 // may be taken one after another, and after that each still has what it needs and does not itself remove.
 #![tactic(auto)]
 
-ghost use Rattle.std.specs.Prelude.{◌≡◌, ◌*◌, ◌-◌, ◌≤◌, eqb, length};
-ghost use Rattle.definitions.specs.Lists.{if◌then◌else◌, all};
+ghost use Rattle.std.specs.Prelude.{◌≡◌, ◌*◌, ◌-◌, ◌≤◌, eqb, length, if◌then◌else◌};
+ghost use Rattle.definitions.specs.Lists.{all};
 ghost use Rattle.definitions.specs.Refusal.{refused, accepted};
 ghost use Rattle.definitions.specs.Problem.Atoms.{Problem, atoms, words_for};
 ghost use Rattle.definitions.specs.Reply.Layers.{ends_test};

@@ -1,6 +1,6 @@
 -- Copying by the lines of a table: a line's words one by one, the lines one by one, and that all of them are the words of the picks.
 use Prim.Native.Nat.{ℕ, zero, suc, ◌+◌, ◌-◌, ◌*◌, ◌/◌, ◌≤◌, ◌<◌}
-use Rattle.std.specs.Prelude.{◌≡◌, Bool, T, length, set}
+use Rattle.std.specs.Prelude.{◌≡◌, Bool, T, length, set, if◌then◌else◌}
 use Rattle.std.proofs.Math.Path.{refl, sym, ap, ap₂, fun_ext}
 use Rattle.std.proofs.Common.{subst, ◌∙◌, add-zero, ltb-true, ltb-false, lt-ltb, le-ltb}
 use Rattle.std.proofs.Math.Bool.{true, false, ◌&&◌}
@@ -10,7 +10,7 @@ use native.Mathlib.Omega.{arith}
 use Rattle.std.proofs.Math.Dec.{ltb}
 use Rattle.std.proofs.Math.ListN.{drop, length-append}
 use Rattle.std.proofs.Math.Seq.{sets, sets-eq}
-use Rattle.definitions.specs.Lists.{if◌then◌else◌, filter, flat_map, from, below, sum}
+use Rattle.definitions.specs.Lists.{filter, flat_map, from, below, sum}
 use Rattle.definitions.specs.Refusal.{Result, accepted}
 use Rattle.definitions.specs.Sheet.Relations.{is_chosen}
 use Rattle.definitions.specs.Problem.Atoms.{Problem, State, relation_at, tuples_of, relation_start, tuple_start, atoms, words_for, state_words}

@@ -1,5 +1,5 @@
 -- The kinds of picks tested on their bits are those of the definitions.
-use Rattle.std.specs.Prelude.{ℕ, zero, suc, ◌+◌, ◌*◌, ◌^◌, ◌<◌, ◌≡◌, refl, Bool, true, ◌&&◌, ◌||◌, T, length}
+use Rattle.std.specs.Prelude.{ℕ, zero, suc, ◌+◌, ◌*◌, ◌^◌, ◌<◌, ◌≡◌, refl, Bool, true, ◌&&◌, ◌||◌, T, length, if◌then◌else◌}
 use Rattle.std.proofs.Math.Path.{sym, ap, ap₂}
 use Rattle.std.proofs.Common.{subst, ◌∙◌, arith, mul-one}
 use Rattle.std.proofs.Math.Bool.{not}
@@ -8,7 +8,7 @@ use mathlib.Core.List.{List, [], ◌∷◌, Memᴰ}
 use Rattle.std.proofs.Math.Arith.{digits_lt}
 use Rattle.std.proofs.Math.Dec.{ltb}
 use Rattle.bits.specs.Table.{num, count}
-use Rattle.definitions.specs.Lists.{if◌then◌else◌, any, option, position, below, is_in}
+use Rattle.definitions.specs.Lists.{any, option, position, below, is_in}
 use Rattle.definitions.specs.Sheet.Relations.{Kind, static, plain, Fun, PFun, Inj, PInj, universal, Tuple, is_chosen, is_function, is_injective}
 use Rattle.definitions.specs.Problem.Truth.{Case, are_picks, first_of_other_kind}
 use Rattle.definitions.specs.Problem.Atoms.{problem_of, relation_at, tuples_of}

@@ -1,6 +1,6 @@
 -- Words that hold picks: what is asked of them, for picks read from a text and for lent words.
 use Prim.Native.Nat.{ℕ, zero, suc, ◌+◌, ◌-◌, ◌*◌, ◌≤◌, ◌<◌}
-use Rattle.std.specs.Prelude.{◌≡◌, Bool, true, false, ◌&&◌}
+use Rattle.std.specs.Prelude.{◌≡◌, Bool, true, false, ◌&&◌, if◌then◌else◌}
 use Rattle.std.proofs.Math.Path.{refl, sym, ap, ap₂, subst}
 use Rattle.std.proofs.Common.{◌∙◌, zero-add, take-append-drop, length-take-le, lt-ltb}
 use Rattle.std.proofs.Math.Option.{none}
@@ -11,7 +11,7 @@ use Rattle.std.proofs.Math.Dec.{T, ltb}
 use Rattle.std.proofs.Math.ListN.{length, take, drop, get_or}
 use Rattle.bits.specs.Table.{bit, words, Words}
 use Rattle.bits.proofs.Laws.{bit_words, length_words, is_words}
-use Rattle.definitions.specs.Lists.{if◌then◌else◌, filter, flat_map, from, below}
+use Rattle.definitions.specs.Lists.{filter, flat_map, from, below}
 use Rattle.definitions.specs.Refusal.{Result, accepted}
 use Rattle.definitions.specs.Sheet.Relations.{Relation, Tuple, is_chosen}
 use Rattle.definitions.specs.Sheet.Sheets.{Label, read_picks, first_chosen}

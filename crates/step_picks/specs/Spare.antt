@@ -1,6 +1,6 @@
 -- Spare bits of lent picks: a relation's last word alone can have any, above the bits of its tuples.
 use Prim.Native.Nat.{ℕ, zero, suc, ◌+◌, ◌-◌, ◌*◌, ◌/◌, ◌%◌, ◌^◌, ◌≤◌, ◌<◌}
-use Rattle.std.specs.Prelude.{◌≡◌, ◌⊎◌, Bool, ◌&&◌, List, ◌∷◌, drop}
+use Rattle.std.specs.Prelude.{◌≡◌, ◌⊎◌, Bool, ◌&&◌, List, ◌∷◌, drop, if◌then◌else◌}
 use Rattle.std.proofs.Math.Path.{refl, sym, ap, ap₂}
 use Rattle.std.proofs.Common.{subst, ◌∙◌, ⊎_elim, add-one, leb→le, pow_pos, shr_lt, get_or-drop, eq-eqb, ne_eqb, le-leb, ltb-true, ltb-false, eqb-true}
 use Rattle.std.proofs.Math.Bool.{true, false}
@@ -13,7 +13,7 @@ use Rattle.std.proofs.Math.Seq.{drop-drop}
 use Rattle.std.proofs.lemmas.Bool.{lt-leb, eqb-false}
 use Rattle.bits.specs.Table.{digit, bit, Words}
 use Rattle.bits.proofs.Digit.{digit_ext, digit_of_zero}
-use Rattle.definitions.specs.Lists.{if◌then◌else◌, any, filter, option, position, from, below}
+use Rattle.definitions.specs.Lists.{any, filter, option, position, from, below}
 use Rattle.definitions.specs.Sheet.Relations.{is_chosen}
 use Rattle.definitions.specs.Problem.Atoms.{Problem, relation_at, tuples_of, words_for}
 use Rattle.definitions.specs.Problem.Built.{chosen_numbers}

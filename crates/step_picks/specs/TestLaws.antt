@@ -1,6 +1,6 @@
 -- The tests of kinds, step by step, and that by the table they are those of the problem.
 use Prim.Native.Nat.{ℕ, zero, suc, ◌+◌, ◌-◌, ◌*◌, ◌<◌, ◌≤◌}
-use Rattle.std.specs.Prelude.{◌≡◌, Bool, not, ◌&&◌, ◌||◌, T, eqb, length}
+use Rattle.std.specs.Prelude.{◌≡◌, Bool, not, ◌&&◌, ◌||◌, T, eqb, length, if◌then◌else◌}
 use Rattle.std.proofs.Math.Path.{refl, ap, fun_ext}
 use Rattle.std.proofs.Common.{sym, ap₂, subst, ◌∙◌, add-one, add_assoc, add-zero, zero-add}
 use Rattle.std.proofs.Math.Bool.{true, false}
@@ -11,7 +11,7 @@ use Rattle.std.proofs.Math.Dec.{ltb}
 use Rattle.std.proofs.Math.ListN.{get_or}
 use borrow.Author.Tests.{lt-ltb, le-ltb}
 use Rattle.bits.specs.Table.{bit, num, count}
-use Rattle.definitions.specs.Lists.{if◌then◌else◌, any, filter, option, position, from, below, is_in}
+use Rattle.definitions.specs.Lists.{any, filter, option, position, from, below, is_in}
 use Rattle.definitions.specs.Sheet.Relations.{Kind, static, plain, Fun, PFun, Inj, PInj, universal, is_chosen, is_function, is_injective}
 use Rattle.definitions.specs.Problem.Atoms.{Problem, relation_at}
 use Rattle.definitions.specs.Problem.Built.{chosen_numbers}

@@ -1,7 +1,7 @@
 -- The declared kinds by the table: which kinds break, and the first `choose` that does.
-use Rattle.std.specs.Prelude.{ℕ, zero, suc, ◌+◌, Bool, not, ◌&&◌, ◌||◌, List, ltb}
+use Rattle.std.specs.Prelude.{ℕ, zero, suc, ◌+◌, Bool, not, ◌&&◌, ◌||◌, List, ltb, if◌then◌else◌}
 use Rattle.std.proofs.Math.Option.{Option, none, some}
-use Rattle.definitions.specs.Lists.{if◌then◌else◌, is_in}
+use Rattle.definitions.specs.Lists.{is_in}
 use Rattle.definitions.specs.Sheet.Relations.{is_chosen}
 use Rattle.definitions.specs.Problem.Atoms.{Problem, relation_at}
 use Rattle.problem_table.specs.Lines.{members_in, is_placeless}

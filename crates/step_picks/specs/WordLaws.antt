@@ -1,9 +1,8 @@
 -- By the table, a relation is a `choose` if its kind is 1 to 5, and its tuples end where its not-tuples start.
-use Rattle.std.specs.Prelude.{ℕ, zero, suc, ◌+◌, ◌-◌, ◌/◌, ◌<◌, ◌≤◌, ◌^◌, ◌≡◌, refl, Bool, List, ltb, length}
+use Rattle.std.specs.Prelude.{ℕ, zero, suc, ◌+◌, ◌-◌, ◌/◌, ◌<◌, ◌≤◌, ◌^◌, ◌≡◌, refl, Bool, List, ltb, length, if◌then◌else◌}
 use Rattle.std.proofs.Math.Path.{sym, ap, ap₂}
 use Rattle.std.proofs.Common.{◌∙◌, arith, add-one, lt-ltb, le-ltb}
 use Rattle.std.proofs.Math.Bool.{true, false}
-use Rattle.definitions.specs.Lists.{if◌then◌else◌}
 use Rattle.definitions.specs.Sheet.Relations.{Kind, static, plain, Fun, PFun, Inj, PInj, universal, is_chosen}
 use Rattle.definitions.specs.Problem.Atoms.{Problem, relation_at, tuples_of, words_for}
 use Rattle.definitions.specs.Reply.Outcome.{relation_words}

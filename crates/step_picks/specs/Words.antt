@@ -1,7 +1,6 @@
 -- Picks as bits in words: each `choose` from a new word on, a tuple by its row.
-use Rattle.std.specs.Prelude.{ℕ, zero, suc, ◌+◌, ◌-◌, ◌*◌, ◌<◌, ◌≡◌, Bool, ◌&&◌, List, T, ltb, length}
+use Rattle.std.specs.Prelude.{ℕ, zero, suc, ◌+◌, ◌-◌, ◌*◌, ◌<◌, ◌≡◌, Bool, ◌&&◌, List, T, ltb, length, if◌then◌else◌}
 use Rattle.bits.specs.Table.{bit}
-use Rattle.definitions.specs.Lists.{if◌then◌else◌}
 use Rattle.definitions.specs.Sheet.Relations.{Tuple, is_chosen}
 use Rattle.definitions.specs.Problem.Atoms.{Problem, relation_at, tuples_of, words_for}
 use Rattle.definitions.specs.Problem.Built.{is_picked}

@@ -1,6 +1,6 @@
 -- The true node atoms in the order of their steps. Each step proves its own, and the entries of a node's levels follow one another.
 use Prim.Native.Nat.{ℕ, zero, suc, ◌+◌, ◌-◌, ◌<◌, ◌≤◌}
-use Rattle.std.specs.Prelude.{◌≡◌, Bool, true, false, ◌&&◌, take}
+use Rattle.std.specs.Prelude.{◌≡◌, Bool, true, false, ◌&&◌, take, if◌then◌else◌}
 use Rattle.std.proofs.Math.Path.{refl, sym, ap, ap₂, subst}
 use Rattle.std.proofs.Common.{◌∙◌, div-add-mod'}
 use Rattle.std.proofs.Math.Logic.{⊎_elim}
@@ -12,7 +12,7 @@ use Rattle.std.proofs.Math.Dec.{T}
 use borrow.Author.Tests.{le-leb}
 use Rattle.std.proofs.Math.ListN.{length, get_or, length-append, length-map, get_or-append}
 use Rattle.std.proofs.Math.Seq.{get_or-append-add}
-use Rattle.definitions.specs.Lists.{if◌then◌else◌, filter, from, below, option, position}
+use Rattle.definitions.specs.Lists.{filter, from, below, option, position}
 use Rattle.definitions.specs.Sheet.Relations.{Tuple}
 use Rattle.definitions.specs.Problem.Tree.{Tree, leaf, forall_node, exists_node, and_node, or_node}
 use Rattle.definitions.specs.Problem.Atoms.{Problem, node_at, node_width, node_start, holds_node, atom_number}

@@ -1,13 +1,13 @@
 -- The entries of the atoms' levels, and that what the first pass fills in is the table of levels of `meaning`, `Levels`.
 use Prim.Native.Nat.{ℕ, zero, suc, ◌+◌, ◌-◌, ◌*◌, ◌/◌, ◌%◌, ◌<◌, ◌≤◌, max}
-use Rattle.std.specs.Prelude.{◌≡◌, ◌⊎◌, Bool, true, false, ◌||◌, T, eqb, ltb, length, get_or, set, take}
+use Rattle.std.specs.Prelude.{◌≡◌, ◌⊎◌, Bool, true, false, ◌||◌, T, eqb, ltb, length, get_or, set, take, if◌then◌else◌}
 use Rattle.std.proofs.Math.Path.{refl, sym, ap, ap₂}
 use Rattle.std.proofs.Common.{subst, ◌∙◌, ⊎_elim, eqb-true, ltb-true, ltb-false, take-suc, length-take-le, get_or-set_same, get_or-set_other}
 use mathlib.Core.List.{List, [], ◌∷◌, ◌++◌, map, Memᴰ}
 use native.Mathlib.Omega.{arith}
 use Rattle.std.proofs.lemmas.Bool.{eqb-false}
 use Rattle.std.proofs.Math.Seq.{take-length, set_out}
-use Rattle.definitions.specs.Lists.{if◌then◌else◌, any, all}
+use Rattle.definitions.specs.Lists.{any, all}
 use Rattle.definitions.specs.Problem.Atoms.{Problem, Atom, atom_number, node_start, atoms, State}
 use Rattle.definitions.specs.Problem.Actions.{Action, set as setTuple, begin_proof, prove_and, prove_or, prove_exists, prove_forall, prove_goal, round_end, mark_in, mark_out, needs, adds, action_number, action_at}
 use Rattle.definitions.specs.Problem.Strips.{may_take}

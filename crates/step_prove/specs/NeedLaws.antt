@@ -1,8 +1,8 @@
 -- What an action of each kind needs, once the values of its row are known.
-use Rattle.std.specs.Prelude.{ℕ, zero, suc, ◌+◌, ◌-◌, ◌*◌, ◌^◌, ◌<◌, ◌≤◌, ◌≡◌, refl, Bool, true, false, List, map, eqb, get_or, set}
+use Rattle.std.specs.Prelude.{ℕ, zero, suc, ◌+◌, ◌-◌, ◌*◌, ◌^◌, ◌<◌, ◌≤◌, ◌≡◌, refl, Bool, true, false, List, map, eqb, get_or, set, if◌then◌else◌}
 use Rattle.std.proofs.Common.{sym, ap, ◌∙◌, arith, zero-mul, mul-le-mul}
 use borrow.Author.Tests.{eq-eqb, ne_eqb}
-use Rattle.definitions.specs.Lists.{if◌then◌else◌, all, from}
+use Rattle.definitions.specs.Lists.{all, from}
 use Rattle.definitions.specs.Problem.Actions.{Values, with_value}
 use Rattle.rows.specs.Values.{value_in, Most}
 use Rattle.rows.specs.Laws.{within_set}

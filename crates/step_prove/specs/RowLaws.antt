@@ -1,11 +1,11 @@
 -- The first action that the code finds for an atom of a node is the one that `stepNow` says.
 use Prim.Native.Nat.{ℕ, zero, suc, ◌+◌, ◌-◌, ◌*◌, ◌/◌, ◌%◌, ◌^◌, ◌<◌, ◌≤◌}
-use Rattle.std.specs.Prelude.{◌≡◌, Bool, true, false, List, length, get_or}
+use Rattle.std.specs.Prelude.{◌≡◌, Bool, true, false, List, length, get_or, if◌then◌else◌}
 use Rattle.std.proofs.Math.Path.{refl, sym, ap, ap₂, subst}
 use Rattle.std.proofs.Common.{subst₂, ◌∙◌, div-lt_iff_lt-mul, mul-le-mul}
 use Rattle.std.proofs.Math.Option.{none, some}
 use native.Mathlib.Omega.{arith}
-use Rattle.definitions.specs.Lists.{if◌then◌else◌, all, option, position, from, below, is_in, rank}
+use Rattle.definitions.specs.Lists.{all, option, position, from, below, is_in, rank}
 use Rattle.definitions.specs.Problem.Tree.{Tree, leaf, forall_node, exists_node, and_node, or_node, parts, is_forall, node_sort}
 use Rattle.definitions.specs.Problem.Atoms.{Problem, State, node_at, rows_of, node_width}
 use Rattle.definitions.specs.Problem.Actions.{Action, choices, prove_node, proof_start, proof_number, range_at, action_number}

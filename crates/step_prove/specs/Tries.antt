@@ -1,6 +1,6 @@
 -- The actions for an atom of a node by the numbers of the table, and the first of them that passes a test.
-use Rattle.std.specs.Prelude.{ℕ, zero, suc, ◌+◌, ◌-◌, ◌/◌, ◌%◌, ◌^◌, ◌<◌, ◌≤◌, ◌≡◌, Bool, true, false, List, [], ◌∷◌, eqb, length, get_or, take, drop, set}
-use Rattle.definitions.specs.Lists.{if◌then◌else◌, all, is_in, rank}
+use Rattle.std.specs.Prelude.{ℕ, zero, suc, ◌+◌, ◌-◌, ◌/◌, ◌%◌, ◌^◌, ◌<◌, ◌≤◌, ◌≡◌, Bool, true, false, List, [], ◌∷◌, eqb, length, get_or, take, drop, set, if◌then◌else◌}
+use Rattle.definitions.specs.Lists.{all, is_in, rank}
 use Rattle.definitions.specs.Problem.Atoms.{places_of}
 use Rattle.definitions.specs.Problem.Actions.{values_in}
 use Rattle.rows.specs.Values.{value_in}

@@ -1,13 +1,12 @@
 -- The way of each kind of node, and the search for the first that passes, step by step.
 use Prim.Native.Nat.{ℕ, zero, suc, ◌+◌, ◌-◌, ◌<◌, ◌≤◌}
-use Rattle.std.specs.Prelude.{◌≡◌, Bool, List, eqb}
+use Rattle.std.specs.Prelude.{◌≡◌, Bool, List, eqb, if◌then◌else◌}
 use Rattle.std.proofs.Math.Path.{refl}
 use Rattle.std.proofs.Common.{sym, ap, ap₂, ◌∙◌, add-zero, add-one}
 use Rattle.std.proofs.Math.Bool.{true, false}
 use native.Mathlib.Omega.{arith}
 use borrow.Author.Tests.{eq-eqb, ne_eqb}
 use Rattle.std.proofs.Math.ListN.{length}
-use Rattle.definitions.specs.Lists.{if◌then◌else◌}
 use Rattle.step_prove.specs.Tries.{FlatAt, way_by, first_from}
 
 module _ (n kind many : ℕ) (ms : List ℕ) (j : ℕ) where

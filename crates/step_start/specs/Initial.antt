@@ -1,6 +1,5 @@
 -- What is promised of the initial state, and what of the facts' words it takes.
-use Rattle.std.specs.Prelude.{◌≡◌, false, List, ℕ, zero, suc, ◌+◌, ◌*◌, ◌≤◌, ◌<◌, T, ltb, length, get_or}
-use Rattle.definitions.specs.Lists.{if◌then◌else◌}
+use Rattle.std.specs.Prelude.{◌≡◌, false, List, ℕ, zero, suc, ◌+◌, ◌*◌, ◌≤◌, ◌<◌, T, ltb, length, get_or, if◌then◌else◌}
 use Rattle.definitions.specs.Sheet.Relations.{static, is_chosen, built_in}
 use Rattle.definitions.specs.Problem.Atoms.{Problem, relation_at, tuples_of, tuple_holds, initial, atoms, words_for, state_words}
 use Rattle.definitions.specs.Reply.Outcome.{state_length, written}

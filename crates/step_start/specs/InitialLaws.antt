@@ -1,5 +1,5 @@
 -- What the table says is written is the definitions' initial state.
-use Rattle.std.specs.Prelude.{◌≡◌, Bool, ◌≢◌, ◌⊎◌, length, get_or, drop}
+use Rattle.std.specs.Prelude.{◌≡◌, Bool, ◌≢◌, ◌⊎◌, length, get_or, drop, if◌then◌else◌}
 use Rattle.std.proofs.Math.Path.{refl, sym, ap, ap₂}
 use Rattle.std.proofs.Common.{subst, ◌∙◌, inl, inr, ⊎_elim, div-one, mod-eq_of_lt, pow-suc, one-mul}
 use Rattle.std.proofs.Math.Bool.{true, false, not}
@@ -10,7 +10,7 @@ use Rattle.std.proofs.Math.Nat.{pow-zero}
 use Rattle.std.proofs.Math.Decide.{dec_lt}
 use native.Mathlib.Omega.{arith}
 use Rattle.std.proofs.Math.Dec.{T, ltb}
-use Rattle.definitions.specs.Lists.{if◌then◌else◌, option, is_some}
+use Rattle.definitions.specs.Lists.{option, is_some}
 use Rattle.definitions.specs.Sheet.Sheets.{every_number}
 use Rattle.definitions.specs.Sheet.Relations.{Kind, static, plain, Fun, PFun, Inj, PInj, universal, is_chosen, is_function, is_injective, is_universal, Relation, built_in, built_in_holds}
 use Rattle.definitions.specs.Problem.Atoms.{Problem, places_of, item_at, relation_at, tuples_of, Atom, guess, proof, goal, tuple, not_tuple, free_domain, free_range, holds_node, marked, first_tuples, atom_blocks, atoms, relation_start, node_start, last_start, tuple_start, atom_number, tuple_holds, is_initial, initial, words_for}

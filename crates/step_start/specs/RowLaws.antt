@@ -1,5 +1,5 @@
 -- The laws of what is written by the table: each return and each turn of a loop.
-use Rattle.std.specs.Prelude.{◌≡◌, Bool, cond, ◌&&◌, List, ◌≢◌, eqb, leb, ltb, get_or}
+use Rattle.std.specs.Prelude.{◌≡◌, Bool, cond, ◌&&◌, List, ◌≢◌, eqb, leb, ltb, get_or, if◌then◌else◌}
 use Rattle.std.proofs.Math.Path.{refl, sym, ap, ap₂, fun_ext}
 use Rattle.std.proofs.Common.{subst, ◌∙◌, zero-add, zero-mul, one-mul, add-mul, pow_pos, pow_mono}
 use Rattle.std.proofs.Math.Bool.{true, false, not}
@@ -9,7 +9,6 @@ use Rattle.std.proofs.Math.Decide.{ℕ_discrete, dec_lt}
 use native.Mathlib.Omega.{arith}
 use borrow.Author.Tests.{lt-ltb, le-ltb, eq-eqb, ne_eqb}
 use Rattle.std.proofs.Math.Arith.{digits_div, digits_mod}
-use Rattle.definitions.specs.Lists.{if◌then◌else◌}
 use Rattle.definitions.specs.Sheet.Relations.{built_in_holds}
 use Rattle.definitions.specs.Problem.Atoms.{words_for}
 use Rattle.bits.specs.Table.{digit, bit, paste, turned}

@@ -1,6 +1,5 @@
 -- What is written for each relation, by the table of a grounded problem. A state is spoken of by the predicate of its bits.
-use Rattle.std.specs.Prelude.{Bool, true, false, not, List, ℕ, zero, suc, ◌+◌, ◌-◌, ◌*◌, ◌/◌, ◌%◌, ◌≤◌, ◌<◌, ltb, eqb}
-use Rattle.definitions.specs.Lists.{if◌then◌else◌}
+use Rattle.std.specs.Prelude.{Bool, true, false, not, List, ℕ, zero, suc, ◌+◌, ◌-◌, ◌*◌, ◌/◌, ◌%◌, ◌≤◌, ◌<◌, ltb, eqb, if◌then◌else◌}
 use Rattle.definitions.specs.Sheet.Relations.{built_in_holds}
 use Rattle.definitions.specs.Problem.Atoms.{words_for}
 use Rattle.bits.specs.Table.{bit, paste}

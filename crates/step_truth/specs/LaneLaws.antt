@@ -1,6 +1,6 @@
 -- The rows of a node that differ in its innermost free variable alone: their values are those of the first of them but for that one.
 use Prim.Native.Nat.{ℕ, suc, ◌+◌, ◌-◌, ◌*◌, ◌/◌, ◌%◌, ◌^◌, ◌<◌}
-use Rattle.std.specs.Prelude.{◌≡◌, Bool, eqb, take}
+use Rattle.std.specs.Prelude.{◌≡◌, Bool, eqb, take, if◌then◌else◌}
 use Rattle.std.proofs.Math.Path.{refl, subst, fun_ext}
 use Rattle.std.proofs.Common.{sym, ap, ◌∙◌, div-one, eqb-true, ne_eqb, get_or-take}
 use Rattle.std.proofs.Math.Bool.{true, false}
@@ -9,7 +9,6 @@ use native.Mathlib.Omega.{arith}
 use Rattle.std.proofs.Math.Nat.{pow-succ', pow-zero, div-div-eq-div-mul}
 use Rattle.std.proofs.Math.Arith.{digits_div, digits_mod}
 use Rattle.std.proofs.Math.ListN.{length, get_or}
-use Rattle.definitions.specs.Lists.{if◌then◌else◌}
 use Rattle.definitions.specs.Problem.Tree.{Tree, free}
 use Rattle.definitions.specs.Problem.Atoms.{Problem, places_of}
 use Rattle.definitions.specs.Problem.Actions.{values_in, with_value}

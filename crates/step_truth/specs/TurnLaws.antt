@@ -1,11 +1,11 @@
 -- The turns of the loops that fill a node: the word that is written says of each row that it stands for what its atom means.
-use Rattle.std.specs.Prelude.{ℕ, zero, suc, ◌+◌, ◌-◌, ◌*◌, ◌^◌, ◌<◌, ◌≤◌, Bool, ◌&&◌, eqb, leb, ltb, length, get_or, take}
+use Rattle.std.specs.Prelude.{ℕ, zero, suc, ◌+◌, ◌-◌, ◌*◌, ◌^◌, ◌<◌, ◌≤◌, Bool, ◌&&◌, eqb, leb, ltb, length, get_or, take, if◌then◌else◌}
 use Rattle.std.proofs.Math.Path.{◌≡◌, refl, sym, ap, fun_ext}
 use Rattle.std.proofs.Common.{ap₂, subst, ◌∙◌, arith, add-zero, mul-le-mul, pow-suc, lt→ltb, ltb-true, ltb-false}
 use Rattle.std.proofs.Math.Bool.{true, false}
 use mathlib.Core.List.{List, Memᴰ}
 use Rattle.std.proofs.Math.Nat.{pow-zero}
-use Rattle.definitions.specs.Lists.{if◌then◌else◌, all, any, from, is_in, up_to}
+use Rattle.definitions.specs.Lists.{all, any, from, is_in, up_to}
 use Rattle.definitions.specs.Sheet.Relations.{Tuple}
 use Rattle.definitions.specs.Problem.Tree.{Tree, leaf, forall_node, exists_node, and_node, or_node, is_forall, free, node_sort}
 use Rattle.definitions.specs.Problem.Atoms.{Problem, node_at, rows_of, node_width, node_start, places_of, State}

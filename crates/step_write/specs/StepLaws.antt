@@ -1,13 +1,13 @@
 -- Lists of step numbers, piece by piece.
 use Prim.Native.Nat.{ℕ, zero, suc, ◌+◌, ◌-◌, ◌≤◌, ◌<◌}
-use Rattle.std.specs.Prelude.{◌≡◌, Bool, length, set, take}
+use Rattle.std.specs.Prelude.{◌≡◌, Bool, length, set, take, if◌then◌else◌}
 use Rattle.std.proofs.Math.Path.{refl, sym, ap, subst}
 use Rattle.std.proofs.Common.{ap₂, ◌∙◌, add-zero, length-append}
 use Rattle.std.proofs.Math.Bool.{true, false}
 use mathlib.Core.List.{List, [], ◌∷◌, ◌++◌, map, append_assoc, append-nil}
 use native.Mathlib.Omega.{arith}
 use Rattle.std.proofs.lemmas.List.Edits.{sets}
-use Rattle.definitions.specs.Lists.{if◌then◌else◌, filter, from}
+use Rattle.definitions.specs.Lists.{filter, from}
 use Rattle.definitions.specs.Sheet.Relations.{Tuple}
 use Rattle.definitions.specs.Problem.Atoms.{Problem, node_at, node_width}
 use Rattle.definitions.specs.Problem.Actions.{action_number}

@@ -41,12 +41,10 @@
 // answer is a line: an equals sign, the reply's number and place (0 and what success tells), then what the call handed out and its buffers,
 // each under its name. Any other line ends the run, and is written, with all that follows it, under a word that says so.
 #![tactic(auto)]
+
 ghost use Rattle.std.specs.Prelude.{◌≤◌, ◌<◌, length};
 ghost use Rattle.io.specs.Counts.{IsPrefixLen};
 ghost use Rattle.open_tries.specs.Begun.{ReadyToTry};
-
-use std::fs::File;
-use std::io::Read;
 
 use call_action::Asked;
 use call_sizes::{Sizing, Tallied};
@@ -55,6 +53,8 @@ use open_case::Reply;
 use open_tries::{Begun, Verdict};
 use problem_table::{Act, ChoiceAct, TupleAct};
 use read_text::Found;
+use std::fs::File;
+use std::io::Read;
 
 // A script has no more bytes; what follows them is not read.
 const SCRIPT: usize = 1048576;

@@ -1,7 +1,7 @@
 -- Document 01, "Actions": their order and numbers, what they need, add and remove; and document 02, job 12: the rounds of an `every` line.
-use Rattle.std.specs.Prelude.{ℕ, zero, suc, ◌+◌, ◌*◌, ◌/◌, ◌%◌, Bool, true, false, ◌&&◌, List, [], ◌∷◌, ◌++◌, map, length, get_or, take, drop, eqb, ltb}
+use Rattle.std.specs.Prelude.{ℕ, zero, suc, ◌+◌, ◌*◌, ◌/◌, ◌%◌, Bool, true, false, ◌&&◌, List, [], ◌∷◌, ◌++◌, map, length, get_or, take, drop, eqb, ltb, if◌then◌else◌}
 use Rattle.std.proofs.Math.Option.{Option}
-use Rattle.definitions.specs.Lists.{if◌then◌else◌, option, map_from, filter, is_in, below, rank, before, greatest}
+use Rattle.definitions.specs.Lists.{option, map_from, filter, is_in, below, rank, before, greatest}
 use Rattle.definitions.specs.Sheet.Relations.{Relation, is_chosen, is_function, is_injective}
 use Rattle.definitions.specs.Problem.Tree.{Tree, leaf, forall_node, exists_node, and_node, or_node, Part, parts, how_many, node_sort, free}
 use Rattle.definitions.specs.Sheet.Sheets.{every_number}

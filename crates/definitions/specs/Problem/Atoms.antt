@@ -1,7 +1,7 @@
 -- Document 01, "Atoms": their order and numbers, and which are initially true; and document 02, job 12: the atoms of an `every` line.
-use Rattle.std.specs.Prelude.{ℕ, zero, suc, ◌+◌, ◌-◌, ◌*◌, ◌/◌, ◌^◌, Bool, true, false, not, List, [], ◌∷◌, ◌++◌, map, length, take, get_or, ltb}
+use Rattle.std.specs.Prelude.{ℕ, zero, suc, ◌+◌, ◌-◌, ◌*◌, ◌/◌, ◌^◌, Bool, true, false, not, List, [], ◌∷◌, ◌++◌, map, length, take, get_or, ltb, if◌then◌else◌}
 use Rattle.std.proofs.Math.Option.{Option, none, some}
-use Rattle.definitions.specs.Lists.{Words, if◌then◌else◌, option, flat_map, map_from, below}
+use Rattle.definitions.specs.Lists.{Words, option, flat_map, map_from, below}
 use Rattle.definitions.specs.Sheet.Relations.{Relation, fixed, is_function, is_injective, is_universal}
 unfoldable pub use Rattle.definitions.specs.Problem.Rows.{row_of, places_of}
 use Rattle.definitions.specs.Sheet.Sheets.{relations_of}

@@ -1,7 +1,7 @@
 -- Document 01, "Actions": the built steps, their count and the bound; "The words of demand 3": true node atoms; and document 02, job 12: a
 -- round for each value of the `every` relation.
-use Rattle.std.specs.Prelude.{ℕ, zero, suc, ◌+◌, ◌-◌, ◌*◌, ◌/◌, ◌%◌, ◌^◌, Bool, true, false, not, ◌&&◌, ◌||◌, List, [], ◌∷◌, ◌++◌, map, length, get_or}
-use Rattle.definitions.specs.Lists.{Steps, if◌then◌else◌, all, any, filter, option, position, below, is_in, up_to, sum, flat_map}
+use Rattle.std.specs.Prelude.{ℕ, zero, suc, ◌+◌, ◌-◌, ◌*◌, ◌/◌, ◌%◌, ◌^◌, Bool, true, false, not, ◌&&◌, ◌||◌, List, [], ◌∷◌, ◌++◌, map, length, get_or, if◌then◌else◌}
+use Rattle.definitions.specs.Lists.{Steps, all, any, filter, option, position, below, is_in, up_to, sum, flat_map}
 use Rattle.definitions.specs.Sheet.Relations.{Relation, Tuple, is_among, is_chosen, is_function}
 use Rattle.definitions.specs.Sheet.Sheets.{Question, relations_of, every_number}
 use Rattle.definitions.specs.Problem.Truth.{Case, holds, members_of, every_tuples, values, is_odd, every_value}

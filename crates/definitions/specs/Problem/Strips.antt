@@ -1,6 +1,6 @@
 -- Document 01, "Actions" (its end) and "The words of demand 3": taking steps, and the picks they set.
-use Rattle.std.specs.Prelude.{ℕ, zero, suc, Bool, false, not, ◌&&◌, ◌||◌, List, [], ◌∷◌, map, eqb}
-use Rattle.definitions.specs.Lists.{Steps, if◌then◌else◌, all, any, option, flat_map}
+use Rattle.std.specs.Prelude.{ℕ, zero, suc, Bool, false, not, ◌&&◌, ◌||◌, List, [], ◌∷◌, map, eqb, if◌then◌else◌}
+use Rattle.definitions.specs.Lists.{Steps, all, any, option, flat_map}
 use Rattle.definitions.specs.Refusal.{Result, refused, accepted}
 use Rattle.definitions.specs.Sheet.Relations.{Tuple}
 use Rattle.definitions.specs.Problem.Atoms.{Problem, relation_at, places_of, goal, atom_number, State, initial}

@@ -1,7 +1,7 @@
 -- Document 01, "From rule to tree": negation normal form, added totalities, nodes in preorder and their free variables.
-use Rattle.std.specs.Prelude.{ℕ, zero, suc, ◌+◌, Bool, true, false, not, ◌&&◌, ◌||◌, List, [], ◌∷◌, ◌++◌, map, length, eqb}
+use Rattle.std.specs.Prelude.{ℕ, zero, suc, ◌+◌, Bool, true, false, not, ◌&&◌, ◌||◌, List, [], ◌∷◌, ◌++◌, map, length, eqb, if◌then◌else◌}
 use Rattle.definitions.specs.Limits.{nesting_limit}
-use Rattle.definitions.specs.Lists.{Name, if◌then◌else◌, any, filter, same, option, position, below}
+use Rattle.definitions.specs.Lists.{Name, any, filter, same, option, position, below}
 use Rattle.definitions.specs.Sheet.Relations.{Relation, is_total, number_of}
 use Rattle.definitions.specs.Sheet.Formula.{Formula, Formulas, literal, negation, implication, conjunction, disjunction, exists, forall, nil, cons, variables_of, sort_of}
 use Rattle.definitions.specs.Sheet.Sheets.{Question, relations_of, first_chosen}

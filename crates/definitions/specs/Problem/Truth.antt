@@ -1,8 +1,8 @@
 -- Document 01, "The words of demand 3": truth of the rule and the declared kinds, read off the sheets; and document 02, job 4: what a
 -- variable ranges over, job 5: the types of a kind, job 12: the values of the `every` relation.
-use Rattle.std.specs.Prelude.{ℕ, zero, suc, ◌+◌, ◌-◌, ◌/◌, ◌%◌, ◌^◌, Bool, true, false, not, ◌&&◌, ◌||◌, List, [], ◌∷◌, ◌++◌, map, get_or, length, eqb, leb, ltb}
+use Rattle.std.specs.Prelude.{ℕ, zero, suc, ◌+◌, ◌-◌, ◌/◌, ◌%◌, ◌^◌, Bool, true, false, not, ◌&&◌, ◌||◌, List, [], ◌∷◌, ◌++◌, map, get_or, length, eqb, leb, ltb, if◌then◌else◌}
 use Rattle.std.proofs.Math.Option.{Option}
-use Rattle.definitions.specs.Lists.{Name, if◌then◌else◌, all, any, filter, same, option, position, map_from, below, is_in}
+use Rattle.definitions.specs.Lists.{Name, all, any, filter, same, option, position, map_from, below, is_in}
 use Rattle.definitions.specs.Sheet.Relations.{Relation, fixed, Tuple, is_among, are_distinct, built_in_holds, number_of, is_function, is_injective, is_total}
 use Rattle.definitions.specs.Problem.Rows.{places_of}
 use Rattle.definitions.specs.Sheet.Formula.{Quantified, Formula, Formulas, literal, negation, implication, conjunction, disjunction, exists, forall, nil, cons, sort_of}

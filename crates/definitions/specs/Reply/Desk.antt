@@ -1,7 +1,7 @@
 -- Document 01, "The desk program": the bytes it prints for the bytes it reads; elements by their labels since document 02, job 1.
-use Rattle.std.specs.Prelude.{ℕ, zero, ◌+◌, Bool, false, ◌||◌, List, [], ◌∷◌, ◌++◌, map, length, take, drop, ltb}
+use Rattle.std.specs.Prelude.{ℕ, zero, ◌+◌, Bool, false, ◌||◌, List, [], ◌∷◌, ◌++◌, map, length, take, drop, ltb, if◌then◌else◌}
 use Rattle.definitions.specs.Limits.{early, desk_bytes, desk_steps, desk_words}
-use Rattle.definitions.specs.Lists.{Text, if◌then◌else◌, same, option, flat_map}
+use Rattle.definitions.specs.Lists.{Text, same, option, flat_map}
 use Rattle.definitions.specs.Sheet.Text.{bytes, decimal, Line, lines, fields}
 use Rattle.definitions.specs.Refusal.{Result, refused, accepted, ◌>>=◌, refuse_if}
 use Rattle.definitions.specs.Sheet.Relations.{Tuple}

@@ -1,8 +1,8 @@
 -- Document 02, job 7: the least picks that make the rule true.
-use Rattle.std.specs.Prelude.{ℕ, zero, ◌/◌, ◌%◌, ◌^◌, Bool, ◌&&◌, List, [], ◌∷◌, map, length, eqb, ltb}
+use Rattle.std.specs.Prelude.{ℕ, zero, ◌/◌, ◌%◌, ◌^◌, Bool, ◌&&◌, List, [], ◌∷◌, map, length, eqb, ltb, if◌then◌else◌}
 use Rattle.std.proofs.Math.Option.{Option}
 use Rattle.definitions.specs.Limits.{CaseLimits, cell_limit}
-use Rattle.definitions.specs.Lists.{Text, Words, if◌then◌else◌, position, below, flat_map}
+use Rattle.definitions.specs.Lists.{Text, Words, position, below, flat_map}
 use Rattle.definitions.specs.Refusal.{Result, refused, accepted, ◌>>=◌, refuse_if, given}
 use Rattle.definitions.specs.Sheet.Relations.{Tuple}
 use Rattle.definitions.specs.Problem.Truth.{Case, are_of_kinds, rule_is_true}

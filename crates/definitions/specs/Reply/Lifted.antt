@@ -3,9 +3,9 @@
 -- that. All of it is read off the question's tree (nodes by preorder number, their parts and free levels) and the site. No number of an atom or of an
 -- action stands here, no row, and nothing of what `Actions` says that an action needs, adds or removes. It is for cases without a `type` line and
 -- without an `every` line; others have no PDDL (`Pddl.readyForPddl`).
-use Rattle.std.specs.Prelude.{ℕ, zero, suc, ◌-◌, Bool, true, false, not, ◌&&◌, ◌||◌, List, [], ◌∷◌, ◌++◌, map, length, get_or, take, drop, eqb, ltb}
+use Rattle.std.specs.Prelude.{ℕ, zero, suc, ◌-◌, Bool, true, false, not, ◌&&◌, ◌||◌, List, [], ◌∷◌, ◌++◌, map, length, get_or, take, drop, eqb, ltb, if◌then◌else◌}
 use Rattle.std.proofs.Math.Option.{Option}
-use Rattle.definitions.specs.Lists.{if◌then◌else◌, all, any, filter, flat_map, map_from, option, position, find, below, same}
+use Rattle.definitions.specs.Lists.{all, any, filter, flat_map, map_from, option, position, find, below, same}
 use Rattle.definitions.specs.Sheet.Relations.{Relation, fixed, is_chosen, is_function, is_injective}
 use Rattle.definitions.specs.Sheet.Sheets.{relations_of}
 use Rattle.definitions.specs.Problem.Truth.{Case, holds}

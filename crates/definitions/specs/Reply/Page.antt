@@ -1,7 +1,7 @@
 -- Document 02, job 9, "The proof on paper": the steps of a checked case on pages of 60 lines, each of 72 columns and byte 10.
-use Rattle.std.specs.Prelude.{ℕ, zero, suc, ◌+◌, ◌-◌, ◌*◌, ◌/◌, not, List, [], ◌∷◌, ◌++◌, map, length, take, drop, replicate, leb}
+use Rattle.std.specs.Prelude.{ℕ, zero, suc, ◌+◌, ◌-◌, ◌*◌, ◌/◌, not, List, [], ◌∷◌, ◌++◌, map, length, take, drop, replicate, leb, if◌then◌else◌}
 use Rattle.definitions.specs.Limits.{CaseLimits}
-use Rattle.definitions.specs.Lists.{Steps, Text, Words, if◌then◌else◌, option, flat_map, map_from}
+use Rattle.definitions.specs.Lists.{Steps, Text, Words, option, flat_map, map_from}
 use Rattle.definitions.specs.Sheet.Text.{bytes, decimal, is_between}
 use Rattle.definitions.specs.Refusal.{Result, refused, accepted, ◌>>=◌, refuse_if}
 use Rattle.definitions.specs.Sheet.Sheets.{Label}

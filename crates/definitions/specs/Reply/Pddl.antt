@@ -1,9 +1,9 @@
 -- Document 02, job 11, "To and from PDDL": the domain and the instance of a case to the byte, the lines of a plan written and read, and
 -- the four calls. What is written is `Lifted`'s; `docs/PDDL.md` says the layout in words.
-use Rattle.std.specs.Prelude.{ℕ, zero, suc, ◌+◌, ◌-◌, Bool, not, ◌&&◌, ◌||◌, List, [], ◌∷◌, ◌++◌, map, length, get_or, take, eqb, ltb}
+use Rattle.std.specs.Prelude.{ℕ, zero, suc, ◌+◌, ◌-◌, Bool, not, ◌&&◌, ◌||◌, List, [], ◌∷◌, ◌++◌, map, length, get_or, take, eqb, ltb, if◌then◌else◌}
 use Rattle.std.proofs.Math.Option.{Option, none, some}
 use Rattle.definitions.specs.Limits.{CaseLimits}
-use Rattle.definitions.specs.Lists.{Text, Steps, if◌then◌else◌, all, option, flat_map, find, from, below, same, is_empty}
+use Rattle.definitions.specs.Lists.{Text, Steps, all, option, flat_map, find, from, below, same, is_empty}
 use Rattle.definitions.specs.Sheet.Text.{bytes, split, Line, is_capital, is_digit, is_small, number, decimal}
 use Rattle.definitions.specs.Refusal.{Result, refused, accepted, ◌>>=◌, refuse_if, given, read_text}
 use Rattle.definitions.specs.Sheet.Formula.{write_each}

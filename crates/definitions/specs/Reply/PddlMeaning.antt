@@ -2,9 +2,9 @@
 -- or remove them under `not`), without types and comments. Nothing here knows of cases or of how `Pddl` writes: a text is its bytes, in
 -- whatever layout, and case is ignored. This is what has to be believed of PDDL: `Demands`, 24 (`texts-mean`), holds the bytes that are written
 -- of a case, and those of a plan, to it.
-use Rattle.std.specs.Prelude.{ℕ, Bool, true, false, not, ◌&&◌, ◌||◌, List, [], ◌∷◌, ◌++◌, map, length, get_or, drop, eqb}
+use Rattle.std.specs.Prelude.{ℕ, Bool, true, false, not, ◌&&◌, ◌||◌, List, [], ◌∷◌, ◌++◌, map, length, get_or, drop, eqb, if◌then◌else◌}
 use Rattle.std.proofs.Math.Option.{Option, none, some}
-use Rattle.definitions.specs.Lists.{Text, if◌then◌else◌, all, any, filter, option, position, find, same, is_empty}
+use Rattle.definitions.specs.Lists.{Text, all, any, filter, option, position, find, same, is_empty}
 use Rattle.definitions.specs.Sheet.Text.{bytes}
 use Rattle.definitions.specs.Reply.Pddl.{folded}
 

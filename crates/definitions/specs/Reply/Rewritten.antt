@@ -1,7 +1,7 @@
 -- Document 02, job 1, "a case rewritten with numbers": a site or picks without labels.
-use Rattle.std.specs.Prelude.{◌||◌, List, [], ◌∷◌, map}
+use Rattle.std.specs.Prelude.{◌||◌, List, [], ◌∷◌, map, if◌then◌else◌}
 use Rattle.std.proofs.Math.Option.{none}
-use Rattle.definitions.specs.Lists.{Text, if◌then◌else◌, same, option, flat_map}
+use Rattle.definitions.specs.Lists.{Text, same, option, flat_map}
 use Rattle.definitions.specs.Sheet.Text.{bytes, decimal, Line, lines, fields}
 use Rattle.definitions.specs.Sheet.Sheets.{element, Label, element_of}
 use Rattle.definitions.specs.Reply.Desk.{is_record, print_line}

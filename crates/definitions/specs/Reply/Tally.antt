@@ -1,6 +1,6 @@
 -- Document 02, job 3: one walk of the tree gives the nodes it visits, their atoms and their actions.
-use Rattle.std.specs.Prelude.{ℕ, zero, suc, ◌+◌, ◌*◌, Bool, List, [], ◌∷◌, ◌++◌, map, length, leb}
-use Rattle.definitions.specs.Lists.{Text, if◌then◌else◌, is_some, sum}
+use Rattle.std.specs.Prelude.{ℕ, zero, suc, ◌+◌, ◌*◌, Bool, List, [], ◌∷◌, ◌++◌, map, length, leb, if◌then◌else◌}
+use Rattle.definitions.specs.Lists.{Text, is_some, sum}
 use Rattle.definitions.specs.Limits.{CaseLimits, every_limit}
 use Rattle.definitions.specs.Refusal.{Result, accepted, ◌>>=◌}
 use Rattle.definitions.specs.Problem.Truth.{every_tuples, values}

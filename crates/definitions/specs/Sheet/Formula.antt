@@ -1,10 +1,10 @@
 -- Document 01, "The sheets": the formula, its writing, and what is counted and asked of it (6 to 8); and document 02, job 4: types of
 -- quantified variables (19). 5 is a text that is no well-formed formula's writing: `Parsing` reads it, and `Writing` proves that it
 -- takes exactly the texts that `write` gives for well-formed formulas.
-use Rattle.std.specs.Prelude.{ℕ, zero, suc, ◌+◌, ◌*◌, ◌≤◌, max, ◌≡◌, Bool, true, not, ◌&&◌, List, [], ◌∷◌, ◌++◌, map, length, eqb}
+use Rattle.std.specs.Prelude.{ℕ, zero, suc, ◌+◌, ◌*◌, ◌≤◌, max, ◌≡◌, Bool, true, not, ◌&&◌, List, [], ◌∷◌, ◌++◌, map, length, eqb, if◌then◌else◌}
 use Rattle.std.proofs.Math.Option.{Option}
 use Rattle.definitions.specs.Limits.{list_limit}
-use Rattle.definitions.specs.Lists.{Name, Text, if◌then◌else◌, all, any, filter, same, option, position}
+use Rattle.definitions.specs.Lists.{Name, Text, all, any, filter, same, option, position}
 use Rattle.definitions.specs.Sheet.Text.{bytes, is_relation_name, is_variable}
 use Rattle.definitions.specs.Sheet.Relations.{Relation, is_total}
 

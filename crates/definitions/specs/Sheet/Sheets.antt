@@ -1,10 +1,10 @@
 -- Document 01, "The sheets" and the first ten rows of its "Refusal sheet": reading the question, the site, picks and steps; and
 -- document 02, job 1: labels of elements, job 4: types and their members, job 5: types of a function kind, job 12: an `every` line. A reader takes the relations and the types that its lines
 -- may name, and nothing else of the question.
-use Rattle.std.specs.Prelude.{ℕ, zero, ◌+◌, Bool, true, false, not, ◌&&◌, ◌||◌, List, [], ◌∷◌, ◌++◌, map, length, get_or, eqb, leb, ltb}
+use Rattle.std.specs.Prelude.{ℕ, zero, ◌+◌, Bool, true, false, not, ◌&&◌, ◌||◌, List, [], ◌∷◌, ◌++◌, map, length, get_or, eqb, leb, ltb, if◌then◌else◌}
 use Rattle.std.proofs.Math.Option.{Option, none, some}
 use Rattle.definitions.specs.Limits.{arity_limit, every_arity_limit, rel_limit, type_limit, choose_limit, form_limit, nesting_limit, CaseLimits}
-use Rattle.definitions.specs.Lists.{Name, Steps, Text, if◌then◌else◌, all, any, same, is_empty, option, is_some, listed, position, below}
+use Rattle.definitions.specs.Lists.{Name, Steps, Text, all, any, same, is_empty, option, is_some, listed, position, below}
 use Rattle.definitions.specs.Sheet.Text.{bytes, Line, fields, number, is_relation_name, is_between}
 use Rattle.definitions.specs.Refusal.{Result, refused, accepted, ◌>>=◌, refuse_if, given, read_text}
 use Rattle.definitions.specs.Sheet.Relations.{Kind, plain, Fun, PFun, Inj, PInj, Relation, fixed, varying, Tuple, is_among, built_in, is_declared}

@@ -1,10 +1,10 @@
 -- Document 01, "The sheets": lines, fields, numbers and names.
-use Rattle.std.specs.Prelude.{ℕ, zero, suc, ◌+◌, ◌-◌, ◌*◌, ◌/◌, ◌%◌, Bool, true, false, not, ◌&&◌, ◌||◌, List, [], ◌∷◌, ◌++◌, length, eqb, leb}
+use Rattle.std.specs.Prelude.{ℕ, zero, suc, ◌+◌, ◌-◌, ◌*◌, ◌/◌, ◌%◌, Bool, true, false, not, ◌&&◌, ◌||◌, List, [], ◌∷◌, ◌++◌, length, eqb, leb, if◌then◌else◌}
 use Prim.Native.String.{String, [] as ε, ◌∷◌ as ◌∶◌}
 use Prim.Native.Char.{code}
 use Rattle.std.proofs.Math.Option.{Option, none, some}
 use Rattle.definitions.specs.Limits.{digit_limit, name_limit, variable_limit}
-use Rattle.definitions.specs.Lists.{Text, if◌then◌else◌, all, is_empty}
+use Rattle.definitions.specs.Lists.{Text, all, is_empty}
 
 -- a quoted ASCII text as its bytes (it stands for them wherever it is written)
 abbrev pub bytes : String → Text

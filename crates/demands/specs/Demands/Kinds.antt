@@ -1,9 +1,8 @@
 -- Document 02, job 5, section 18 of the demands: kinds with types.
-use Rattle.std.specs.Prelude.{ℕ, zero, suc, ◌+◌, ◌*◌, ◌/◌, ◌%◌, ◌<◌, ◌≤◌, ◌≡◌, ◌⊎◌, ◌↔◌, true, false, length, get_or}
+use Rattle.std.specs.Prelude.{ℕ, zero, suc, ◌+◌, ◌*◌, ◌/◌, ◌%◌, ◌<◌, ◌≤◌, ◌≡◌, ◌⊎◌, ◌↔◌, true, false, length, get_or, if◌then◌else◌}
 use Rattle.std.proofs.Math.Option.{some}
 use mathlib.Core.List.{List, Memᴰ}
 use Rattle.definitions.specs.Limits.{CaseLimits}
-use Rattle.definitions.specs.Lists.{if◌then◌else◌}
 use Rattle.definitions.specs.Refusal.{accepted}
 use Rattle.definitions.specs.Sheet.Relations.{Relation, Tuple, is_chosen, is_function}
 use Rattle.definitions.specs.Sheet.Sheets.{Member, first_chosen}

@@ -1,8 +1,8 @@
 -- Document 02, job 3, section 13 of the demands: the sizes in one walk.
-use Rattle.std.specs.Prelude.{ℕ, zero, ◌≡◌, ◌&&◌, ◌||◌, List, map, leb, ltb, length}
+use Rattle.std.specs.Prelude.{ℕ, zero, ◌≡◌, ◌&&◌, ◌||◌, List, map, leb, ltb, length, if◌then◌else◌}
 use Rattle.std.proofs.Common.{ap}
 use Rattle.definitions.specs.Limits.{CaseLimits, every_limit}
-use Rattle.definitions.specs.Lists.{if◌then◌else◌, is_some, below}
+use Rattle.definitions.specs.Lists.{is_some, below}
 use Rattle.definitions.specs.Refusal.{accepted, ◌>>=◌, refuse_if}
 use Rattle.definitions.specs.Problem.Truth.{Case, every_tuples}
 use Rattle.definitions.specs.Problem.Atoms.{problem_of, atoms}

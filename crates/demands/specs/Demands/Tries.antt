@@ -1,8 +1,8 @@
 -- Document 02, job 8, section 11 of the demands: many step lists of one case, in one call.
-use Rattle.std.specs.Prelude.{ℕ, ◌+◌, ◌<◌, ◌≤◌, ◌≡◌, ◌↔◌, true, List, map, ltb, length, take, drop}
+use Rattle.std.specs.Prelude.{ℕ, ◌+◌, ◌<◌, ◌≤◌, ◌≡◌, ◌↔◌, true, List, map, ltb, length, take, drop, if◌then◌else◌}
 use Rattle.std.proofs.Math.Path.{ap}
 use Rattle.definitions.specs.Limits.{CaseLimits, step_limit}
-use Rattle.definitions.specs.Lists.{if◌then◌else◌, is_in}
+use Rattle.definitions.specs.Lists.{is_in}
 use Rattle.definitions.specs.Refusal.{Result, refused, accepted, ready_numbers}
 use Rattle.definitions.specs.Sheet.Sheets.{Label}
 use Rattle.definitions.specs.Problem.Truth.{Case}
