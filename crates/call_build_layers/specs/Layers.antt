@@ -1,4 +1,4 @@
--- What building layers gives, in the words of the definitions: the end of `Layers.layeredPlan`.
+-- What building layers gives, in the words of the definitions: the end of `Layers.layered_plan`.
 use Rattle.std.specs.Prelude.{ℕ, ◌≡◌, List}
 use Rattle.definitions.specs.Refusal.{Result, accepted, ◌>>=◌}
 use Rattle.definitions.specs.Sheet.Relations.{Tuple}

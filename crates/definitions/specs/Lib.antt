@@ -25,7 +25,7 @@
 --   job 8, twenty tries            Tries; TriesDrawn has cases
 --   job 9, on paper                Page; PageCases has cases
 --   job 11, to and from PDDL       PddlMeaning (what PDDL makes of texts: this is to be believed), Pddl (texts and calls); Lifted fixes what is
---                                  written, and is held to PddlMeaning by a theorem (`Demands`, 24, texts-mean); PddlCases has cases
+--                                  written, and is held to PddlMeaning by a theorem (`Demands`, 24, texts_mean); PddlCases has cases
 --   job 12, every set              Sheets (the `every` line), Truth (its values), Atoms, Actions and Built (rounds), Outcome.ground (23); EveryCases
 --                                  has cases
 --   job 13, rules that want more   Monotone; MonotoneCases has cases

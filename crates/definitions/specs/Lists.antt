@@ -1,4 +1,4 @@
--- What lists of numbers stand for, plain functions on lists, and a test that chooses between two values.
+-- What lists of numbers stand for, and plain functions on lists. (The test that chooses between two values, `if`, is the library's.)
 use Rattle.std.specs.Prelude.{ℕ, zero, suc, ◌+◌, Bool, true, false, ◌&&◌, ◌||◌, List, [], ◌∷◌, ◌++◌, eqb, leb, ltb, if◌then◌else◌}
 use Rattle.std.proofs.Math.Option.{Option, none, some}
 

@@ -1,6 +1,6 @@
 -- Document 01, "Refusal sheet": an answer is a value, or a refusal with its number and place. Where each number is tested:
---    1  `readText` here; too many lent steps: Outcome.take_steps; the desk program's bytes: Desk.answer
---    2  Sheets.entryOf
+--    1  `read_text` here; too many lent steps: Outcome.take_steps; the desk program's bytes: Desk.answer
+--    2  Sheets.entry_of
 --    3  Sheets.add_rel, add_type, add_choose, add_every, add_rule, add_size, add_label, add_member, add_fact; another sheet's record: add_to_question,
 --       add_to_site, add_to_picks, add_to_steps; missing: read_question, read_site; the ends of layers: Layers.ends_test
 --    4  Sheets.is_new_name, and a type's: Sheets.add_type
@@ -11,8 +11,8 @@
 --    9  Sheets.add_size, Sheets.add_label, Sheets.add_member, Sheets.add_tuple
 --   10  Sheets.add_member, Sheets.add_tuple in a text, Outcome.spare_word in lent picks
 --   11  Outcome.ground
---   12  Outcome.roomFor
---   13, 14, 15  Strips.runFrom, of layers Layers.run_layers_from; an action asked for by number: Outcome.action
+--   12  Outcome.room_for
+--   13, 14, 15  Strips.run_from, of layers Layers.run_layers_from; an action asked for by number: Outcome.action
 --   16  Truth.first_of_other_kind, by Outcome.satisfying
 --   17  Truth.rule_is_true, by Outcome.satisfying
 -- and of document 02:

@@ -1,7 +1,7 @@
 -- The theorems, about document 01's definitions alone: demands 2 and 3, what holds numbering, texts and lent words together, and what
 -- of demand 1 is about definitions. Here are those about document 01; each job of document 02 has a file of its own in `Demands/`.
 -- A word of document 01 stands here under the name that `definitions` gives it; the proofs are in the other modules.
--- Here:
+-- Here (but for `built_exactly`, `degree` and `site_texts`, which stand in proofs/Demands under the numbers that they have here):
 --       accepted_case, accepted_checks
 --    1  existence
 --    2  acceptance, lent_steps, checking, checking_accepts

@@ -8,7 +8,7 @@
 --   Strips1      an action that removes something is taken once
 --   Accepting    checking accepts what reaches the goal
 --   Answered     what an answer of checking, reading or building tells of the case
---   Polynomial   the bound as a polynomial, its degree
+--   Polynomial   the bound as a polynomial; its degree (the last step is in proofs/Polynomial)
 --   States       beyond the last atom nothing holds
 --   Wider        larger limits: accepted cases answer the same
 --   Written      sheets of steps and picks, written and read back

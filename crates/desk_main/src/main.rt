@@ -40,8 +40,14 @@ fn read_input(from: &mut Stdin, input: &mut [u8]) -> io::Result<usize>
 
 fn main(rt: HostRuntime) -> io::Result<()> {
     let mut input = [0u8; INPUT];
-    let count = read_input(&mut rt.stdin(), &mut input)?;
+    let count = match read_input(&mut rt.stdin(), &mut input) {
+        Ok(count) => count,
+        Err(error) => return eprintln!(rt; "standard input: {error}"),
+    };
     let mut out = [0u8; call_desk::ROOM];
     let length = call_desk::reply(&input[..count], &mut out);
-    rt.stdout().write_all(&out[..length])
+    if let Err(error) = rt.stdout().write_all(&out[..length]) {
+        return eprintln!(rt; "standard output: {error}");
+    }
+    Ok(())
 }

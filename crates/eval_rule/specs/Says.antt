@@ -10,7 +10,7 @@ use Rattle.eval_rule.specs.Lines.{node_in, part_in, line_in, agree, values_of, f
 use Rattle.eval_rule.specs.declared.NodeAt.{NodeAt}
 use Rattle.eval_rule.specs.declared.PartAt.{PartAt}
 
--- the truth of a tree at values, as a whole (`treeHolds` of some picks, say); and that of a literal, read off its line
+-- the truth of a tree at values, as a whole (`tree_holds` of some picks, say); and that of a literal, read off its line
 abbrev pub Truth : Type 0
 Truth = Values → Tree → Bool
 

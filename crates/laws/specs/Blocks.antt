@@ -168,7 +168,7 @@ module _ {A K : Type 0} (f : ℕ → K → List (Block A)) where
       let (j, l, s) = start_of 0 ks d i a e in
       (j, l, (s.0, s.1, ap (λ (x : ℕ). item_at (f x (get_or ks j d)) s.0) (sym (zero-add j)) ∙ s.2))
 
--- where each thing has one block, `mapFrom` alone gives the blocks
+-- where each thing has one block, `map_from` alone gives the blocks
 pub one_each : {A K : Type 0} (f : ℕ → K → Block A) (r : ℕ) (ks : List K) → map_from f r ks ≡ groups (λ i k. f i k ∷ []) r ks
 unfolding groups flat_map map_from
 one_each f r [] = refl

@@ -84,7 +84,7 @@ in_last n k x h = by_test (is_universal k.kind) h
     by_test true h = (refl, h)
     by_test false h = absurd (omega arith)
 
--- what `relationAt` and `nodeAt` give past the end
+-- what `relation_at` and `node_at` give past the end
 abbrev pub no_relation : Relation
 no_relation = fixed [] zero
 

@@ -1,4 +1,4 @@
--- What acceptance gives: a question and site that `readProblem` accepts are those of a case that is `Accepted`.
+-- What acceptance gives: a question and site that `read_problem` accepts are those of a case that is `Accepted`.
 use Rattle.std.specs.Prelude.{ℕ, zero, suc, ◌+◌, ◌<◌, ◌≤◌, ◌≡◌, ◌⊎◌, Bool, ◌&&◌, ◌||◌, leb, eqb, get_or, if◌then◌else◌}
 use Rattle.std.proofs.Math.Path.{refl, subst}
 use Rattle.std.proofs.Common.{sym, ap, ◌∙◌, inl, inr, ⊎_elim, arith, ltb→lt, eqb→eq, leb→le, T_not, length-append}

@@ -192,7 +192,7 @@ module _ (p : Problem) (G : Good p) (F : List Tuple) (inside : (t : Tuple) → M
         outer : ℕ → Bool
         outer x = any (inner x) (below p.size)
 
-  -- what `isOfKind` tests, by rows
+  -- what `is_of_kind` tests, by rows
   pub of_kind : is_of_kind p.source F r (relation_at p r) ≡ not (breaks (relation_at p r).kind (p.range (relation_at p r).firsts) (p.range (relation_at p r).seconds) p.size (is_picked p F r))
   unfolding is_of_kind breaks
   of_kind = ap₂ ◌&&◌ (ap₂ (λ (x y : Bool). not x && not y)

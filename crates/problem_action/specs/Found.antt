@@ -102,7 +102,7 @@ module _ (p : Problem) (w : List ℕ) (v off : ℕ) (x : NodeLine) where
       let s : 0 < x.count = (counted_of u i h).count (rw i.kind k) in
       rw e (ap (made (off / x.count)) (sym (range_at_lem u i k (off % x.count) (mod-lt off s))))
 
-  said_proof : (u : Tree) → IsNode p w v u x → off < proofs_of p.size p.range u → proof_in w v off x ≡ said (prove_node p.range u v (off / choices p.range u) (off % choices p.range u))
+  pub said_proof : (u : Tree) → IsNode p w v u x → off < proofs_of p.size p.range u → proof_in w v off x ≡ said (prove_node p.range u v (off / choices p.range u) (off % choices p.range u))
   unfolding proof_in proof_by node_kind node_sort said prove_node choices proofs_of parts
   said_proof (leaf q r ls) i h = let z = mul-zero (rows_of p.size (leaf q r ls)) in absurd (omega (arith, z))
   said_proof (forall_node d σ u) i h = rw i.kind (ap said (choice_at (forall_node d σ u) (prove_forall v) i (omega arith) h))
@@ -116,7 +116,7 @@ module _ (p : Problem) (w : List ℕ) (is : Is p w) where
   unfolding relation_line
   sets_at r h = is.sets r h
 
-  acts_at : (v : ℕ) → v ≤ length p.node_list → get_or w (node_place v) 0 ≡ proof_start p v
+  pub acts_at : (v : ℕ) → v ≤ length p.node_list → get_or w (node_place v) 0 ≡ proof_start p v
   unfolding node_line
   acts_at v h = is.acts v h
 
@@ -235,24 +235,15 @@ module _ (p : Problem) (w : List ℕ) (is : Is p w) where
     found_begin h = rw (at_begin p k (h ∙ ap (λ (r : ℕ). get_or w (relation_place r) 0) is.relations ∙ sets_at (length p.relations) (omega arith))) refl
 
     module _ (v : ℕ) (h : v < nodes_in w) (a : get_or w (node_place v) 0 ≤ k) (b : k < get_or w (node_place (v + 1)) 0) where
-      inside : (proof_start p v ≤ k) × (k < proof_start p (suc v)) × (k - get_or w (node_place v) 0 < proofs_of p.size p.range (node_at p v))
+      pub inside : (proof_start p v ≤ k) × (k < proof_start p (suc v)) × (k - get_or w (node_place v) 0 < proofs_of p.size p.range (node_at p v))
       inside =
           let e = acts_at v (omega (arith, is.nodes)) in
           let e' = acts_at (v + 1) (omega (arith, is.nodes)) ∙ ap (proof_start p) (add-one v) in
           let z = proof_next p v (omega (arith, is.nodes)) in
           (omega arith, omega arith, omega arith)
 
-      line : IsNode p w v (node_at p v) (node_line w v)
+      pub line : IsNode p w v (node_at p v) (node_line w v)
       line = is.node v (omega (arith, is.nodes))
-
-      pub found_proof : (x : NodeLine) → x ≡ node_line w v → proof_in w v (k - get_or w (node_place v) 0) x ≡ act_of (action_at p k)
-      unfolding act_of
-      found_proof x l =
-          let e : get_or w (node_place v) 0 ≡ proof_start p v = acts_at v (omega (arith, is.nodes)) in
-          let q = inside in
-          rw (at_proof p k v (omega (arith, is.nodes)) q.0 q.1, l)
-          (said_proof p w v (k - get_or w (node_place v) 0) (node_line w v) (node_at p v) line q.2
-          ∙ ap (λ (x : ℕ). said (prove_node p.range (node_at p v) v ((k - x) / choices p.range (node_at p v)) ((k - x) % choices p.range (node_at p v)))) e)
 
       pub found_counted : (x : NodeLine) → x ≡ node_line w v → Counted x
       found_counted x l = rw l (counted_of p w v (k - get_or w (node_place v) 0) (node_line w v) (node_at p v) line inside.2)

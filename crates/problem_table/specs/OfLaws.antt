@@ -329,7 +329,7 @@ module _ (p : Problem) (w : List ℕ) (is : Is p w) where
       a ∙ ap₂ from (sym first_node) (sym n)
 
   -- ---- what an action needs, adds and removes
-  needs_at : (x : Action) → IsAction p x → (n : ℕ) → n ≡ p.size → size_in w ≡ n → map (atom_number p) (needs p x) ≡ need_numbers w (said x)
+  pub needs_at : (x : Action) → IsAction p x → (n : ℕ) → n ≡ p.size → size_in w ≡ n → map (atom_number p) (needs p x) ≡ need_numbers w (said x)
   unfolding needs said need_numbers set_needs and_needs or_needs exists_needs forallNumbers goal_needs root_atom atom_number IsAction node_kind
   needs_at (set r row) a n e q =
       rw (q, e) (ap₂ (λ (x : ℕ) (xs : List ℕ). 0 ∷ (x + row) ∷ xs) (sym (is.relation r a.0).nots) (free_at r row a.0 a.1))
@@ -344,9 +344,6 @@ module _ (p : Problem) (w : List ℕ) (is : Is p w) where
   needs_at round_end a n e q = ap (λ (y : ℕ). y ∷ []) (sym (one_part (λ _. 0) 64 0 p.root is.root))
   needs_at (mark_in r row) a n e q = ap₂ (λ (x y : ℕ). (x + row) ∷ (y + row) ∷ []) (sym (marks_start r a.0 a.1)) (sym (is.relation r a.0).nots)
   needs_at (mark_out r row) a n e q = ap₂ (λ (x y : ℕ). (x + row) ∷ (y + row) ∷ []) (sym (marks_start r a.0 a.1)) (sym (is.relation r a.0).tuples)
-
-  pub needs_are : (x : Action) → IsAction p x → map (atom_number p) (needs p x) ≡ need_numbers w (said x)
-  needs_are x a = needs_at x a p.size refl is.size
 
   pub adds_are : (x : Action) → IsAction p x → map (atom_number p) (adds p x) ≡ add_numbers w (said x)
   unfolding adds said add_numbers atom_number IsAction
@@ -376,16 +373,12 @@ module _ (p : Problem) (w : List ℕ) (is : Is p w) where
   removes_are (mark_in r row) a = ap₂ (λ (x y : ℕ). (x + row) ∷ (y + row) ∷ []) (sym (marks_start r a.0 a.1)) (sym (is.relation r a.0).nots)
   removes_are (mark_out r row) a = ap₂ (λ (x y : ℕ). (x + row) ∷ (y + row) ∷ []) (sym (marks_start r a.0 a.1)) (sym (is.relation r a.0).tuples)
 
-  all_map : (s : ℕ → Bool) (xs : List Atom) → all s (map (atom_number p) xs) ≡ all (λ a. s (atom_number p a)) xs
+  pub all_map : (s : ℕ → Bool) (xs : List Atom) → all s (map (atom_number p) xs) ≡ all (λ a. s (atom_number p a)) xs
   unfolding all
   all_map s [] = refl
   all_map s (x ∷ xs) = ap (λ (b : Bool). s (atom_number p x) && b) (all_map s xs)
 
-  -- may be taken, and the state after
-  pub may_is : (s : State) (x : Action) → IsAction p x → all s (need_numbers w (said x)) ≡ may_take p s x
-  unfolding may_take
-  may_is s x k = ap (all s) (sym (needs_are x k)) ∙ all_map s (needs p x)
-
+  -- the state after
   pub after_is : (s : State) (x : Action) → IsAction p x → changed s (remove_numbers w (said x)) (add_numbers w (said x)) ≡ after p s x
   unfolding after changed
   after_is s x k = ap₂ (changed s) (sym (removes_are x k)) (sym (adds_are x k))

@@ -1,4 +1,4 @@
--- The number that `rule_verdict` gives is the one that the definitions' `addRule` refuses with. Assumes nothing.
+-- The number that `rule_verdict` gives is the one that the definitions' `add_rule` refuses with. Assumes nothing.
 use Rattle.std.specs.Prelude.{ℕ, ◌+◌, ◌≡◌, refl, Bool, true, false, not, ◌||◌, List, [], eqb, ltb, if◌then◌else◌}
 use Rattle.std.proofs.Math.Option.{Option, none, some}
 use Rattle.std.proofs.Common.{eq-eqb}

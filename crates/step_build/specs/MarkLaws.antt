@@ -21,7 +21,8 @@ use Rattle.meaning.specs.Values.{HasEvery, tuples_are}
 use Rattle.problem_table.specs.Lines.{relation_place, node_place, relations_in, nodes_in, relation_line, last_line, has_every, every_in, node_line, Fits}
 use Rattle.problem_table.specs.Numbers.{need_numbers, finish_in, ActFits}
 use Rattle.problem_table.specs.Of.{Is, said}
-use Rattle.problem_table.specs.OfLaws.{may_is, has_every_lem, every_count, finish_are}
+use Rattle.problem_table.specs.OfLaws.{has_every_lem, every_count, finish_are}
+use Rattle.problem_table.proofs.Needs.{may_is}
 use Rattle.problem_table.specs.declared.NodeLine.{NodeLine}
 use Rattle.problem_table.specs.declared.Act.{Act}
 use Rattle.problem_table.specs.declared.Act.TheVariants.{Goal, RoundEnd, MarkIn, MarkOut}

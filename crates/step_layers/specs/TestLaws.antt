@@ -20,7 +20,7 @@ use Rattle.meaning.specs.Layers.{NoEvery, actions_cons, actions_none}
 use Rattle.meaning.specs.LayerTests.{was_taken, takes_all, stays, run_tells, run_leaves, actions_valid, three_tests}
 use Rattle.problem_table.specs.Numbers.{need_numbers}
 use Rattle.problem_table.specs.Of.{Is, said, act_of}
-use Rattle.problem_table.specs.OfLaws.{may_is}
+use Rattle.problem_table.proofs.Needs.{may_is}
 use Rattle.problem_table.specs.declared.Act.{Act}
 use Rattle.step_run.specs.Ended.{ended, is_nothing}
 use Rattle.step_run.specs.declared.End.{End}

@@ -25,7 +25,8 @@ use Rattle.problem_table.specs.Numbers.{need_numbers, add_numbers}
 use Rattle.problem_table.specs.Of.{Is, said, act_of}
 use Rattle.problem_table.specs.declared.Act.{Act}
 use Rattle.problem_table.specs.declared.Act.TheVariants.{Goal}
-use Rattle.problem_table.specs.OfLaws.{needs_are, adds_are}
+use Rattle.problem_table.specs.OfLaws.{adds_are}
+use Rattle.problem_table.proofs.Needs.{needs_are}
 use Rattle.step_place.specs.declared.Region.{Region}
 use Rattle.step_place.specs.Slots.{field, Sums, rank_in, slot_in, look_in, level_by, own_by, with_level}
 use Rattle.step_place.specs.Sorting.{occ, occ_next, occ_length, occ_snoc}

@@ -1,4 +1,4 @@
--- The first action that the code finds for an atom of a node is the one that `stepNow` says.
+-- The first action that the code finds for an atom of a node is the one that `step_now` says.
 use Prim.Native.Nat.{ℕ, zero, suc, ◌+◌, ◌-◌, ◌*◌, ◌/◌, ◌%◌, ◌^◌, ◌<◌, ◌≤◌}
 use Rattle.std.specs.Prelude.{◌≡◌, Bool, true, false, List, length, get_or, if◌then◌else◌}
 use Rattle.std.proofs.Math.Path.{refl, sym, ap, ap₂, subst}
@@ -19,7 +19,8 @@ use Rattle.problem_table.specs.Lines.{node_place, size_in, node_line, range_in, 
 use Rattle.problem_table.specs.declared.NodeLine.{NodeLine}
 use Rattle.problem_table.specs.Numbers.{need_numbers}
 use Rattle.problem_table.specs.Of.{Is, said}
-use Rattle.problem_table.specs.OfLaws.{parts_length, may_is}
+use Rattle.problem_table.specs.OfLaws.{parts_length}
+use Rattle.problem_table.proofs.Needs.{may_is}
 use Rattle.problem_table.specs.declared.Act.{Act}
 use Rattle.meaning.specs.Planning.{row_in, first_try, tries, try_at, step_now}
 use Rattle.step_prove.specs.Tries.{Way, act_by, way_by, way_at, first_from}

@@ -12,7 +12,8 @@ use Rattle.definitions.specs.Problem.Strips.{may_take, after, Run, run_from}
 use Rattle.laws.specs.Numbers.{IsAction, action_is}
 use Rattle.problem_table.specs.Numbers.{need_numbers, add_numbers, remove_numbers, changed, Held}
 use Rattle.problem_table.specs.Of.{Is, said, act_of}
-use Rattle.problem_table.specs.OfLaws.{may_is, after_is, held}
+use Rattle.problem_table.specs.OfLaws.{after_is, held}
+use Rattle.problem_table.proofs.Needs.{may_is}
 use Rattle.problem_table.specs.declared.Act.{Act}
 use Rattle.step_run.specs.Ended.{ended, is_nothing}
 use Rattle.step_run.specs.declared.End.{End}

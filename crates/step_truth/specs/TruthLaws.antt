@@ -24,7 +24,8 @@ use Rattle.problem_table.specs.Lines.{size_in, node_line, part_at, range_in}
 use Rattle.problem_table.specs.Numbers.{row_values, under_at, and_needs, or_needs, need_numbers}
 use Rattle.problem_table.specs.NeedLaws.{all_yes, all_one, exists_under}
 use Rattle.problem_table.specs.Of.{Is, IsNode, said}
-use Rattle.problem_table.specs.OfLaws.{may_is, under_at_lem, parts_length}
+use Rattle.problem_table.specs.OfLaws.{under_at_lem, parts_length}
+use Rattle.problem_table.proofs.Needs.{may_is}
 use Rattle.problem_table.specs.declared.NodeLine.{NodeLine}
 use Rattle.meaning.specs.Means.{Good}
 use Rattle.meaning.specs.Does.{some_any}

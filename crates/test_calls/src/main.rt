@@ -1486,7 +1486,11 @@ fn run_inputs(file: &mut File) {
 fn main(rt: HostRuntime) -> std::io::Result<()> {
     let mut script = [0u8; SCRIPT];
     run_script(&mut script);
-    let mut file = File::open(&rt, "inputs")?;
-    run_inputs(&mut file);
-    Ok(())
+    match File::open(&rt, "inputs") {
+        Ok(mut file) => {
+            run_inputs(&mut file);
+            Ok(())
+        }
+        Err(error) => eprintln!(rt; "inputs: {error}"),
+    }
 }

@@ -132,7 +132,7 @@ unfoldable pub action_at : Problem → ℕ → Option Action
 action_at p i = item_at (action_blocks p) i
 
 -- the number of an action: the actions before its relation or node, and its place there. (The order stands here and in
--- `actionBlocks`; `laws`, `Numbers`, shows that these are one.)
+-- `action_blocks`; `laws`, `Numbers`, shows that these are one.)
 unfoldable pub set_start : Problem → ℕ → ℕ
 set_start p r = count_of (set_blocks p.size p.range (take r p.relations))
 

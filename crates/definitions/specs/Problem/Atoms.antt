@@ -111,7 +111,7 @@ atoms p = count_of (atom_blocks p)
 unfoldable pub node_atoms : Problem → ℕ
 node_atoms p = count_of (nodes_blocks p.size p.node_list)
 
--- the number of an atom: the atoms before its relation or node, and its place there. (The order stands here and in `atomBlocks`;
+-- the number of an atom: the atoms before its relation or node, and its place there. (The order stands here and in `atom_blocks`;
 -- `laws`, `Numbers`, shows that these are one.)
 unfoldable pub relation_start : Problem → ℕ → ℕ
 relation_start p r = 3 + count_of (relations_blocks p.size (take r p.relations))

@@ -28,7 +28,7 @@ nest quantifier level (s ∷ sorts) t = quantifier level s (nest quantifier (suc
 unfoldable pub leaf_of : Bool → List Relation → List Name → Name → List Name → Tree
 leaf_of positive rs scope r vs = leaf positive (option (number_of rs r) zero (λ k. k)) (map (λ v. option (position (same v) scope) zero (λ k. k)) vs)
 
--- Negation is pushed inward until only literals are negated, and `implies` is an `or` whose first part is negated. `asIs` is the
+-- Negation is pushed inward until only literals are negated, and `implies` is an `or` whose first part is negated. `as_is` is the
 -- tree of a formula, `negated` that of its negation, where `and` and `or`, `exists` and `forall` change places; a variable keeps its
 -- sort. Both take the relations, the types, and the variables bound around.
 unfoldable mutual

@@ -3,7 +3,7 @@
 --   .. of the declared kinds                  Truth.are_of_kinds
 --   the rule is true of picks                 Truth.rule_is_true
 --   steps reach the goal                      Strips.reaches_goal
---   the picks read from steps                 Strips.picksOf
+--   the picks read from steps                 Strips.picks_of
 --   a node atom is true                       Built.is_true_at
 --   the built steps, their count, the bound   Built.built_steps, Built.built_count, Built.bound
 use Rattle.std.specs.Prelude.{Bool, true, false, ◌&&◌, List}

@@ -1,8 +1,8 @@
 -- Document 02, job 11, "unground": a case as a planning problem whose actions have parameters. This fixes what `Pddl` writes, and it is a step of
--- the proof, not one more thing to believe: what the written bytes mean is said by `PddlMeaning` alone, and `Demands`, 24 (`texts-mean`), holds them to
+-- the proof, not one more thing to believe: what the written bytes mean is said by `PddlMeaning` alone, and `Demands`, 24 (`texts_mean`), holds them to
 -- that. All of it is read off the question's tree (nodes by preorder number, their parts and free levels) and the site. No number of an atom or of an
 -- action stands here, no row, and nothing of what `Actions` says that an action needs, adds or removes. It is for cases without a `type` line and
--- without an `every` line; others have no PDDL (`Pddl.readyForPddl`).
+-- without an `every` line; others have no PDDL (`Pddl.ready_for_pddl`).
 use Rattle.std.specs.Prelude.{ℕ, zero, suc, ◌-◌, Bool, true, false, not, ◌&&◌, ◌||◌, List, [], ◌∷◌, ◌++◌, map, length, get_or, take, drop, eqb, ltb, if◌then◌else◌}
 use Rattle.std.proofs.Math.Option.{Option}
 use Rattle.definitions.specs.Lists.{all, any, filter, flat_map, map_from, option, position, find, below, same}

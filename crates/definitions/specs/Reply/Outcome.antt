@@ -13,7 +13,7 @@ use Rattle.definitions.specs.Problem.Strips.{run, picks_of}
 use Rattle.definitions.specs.Problem.Built.{is_picked, chosen_numbers, built_steps, bound}
 
 -- ---- a reply in the paper's numbers: a refusal is its number and place; success is 0 and the step count, or 0 and 0 where no steps
--- are counted, and the numbers of what was asked for (of sizes they are its fields, of an action `Actions.actionKind` and the three
+-- are counted, and the numbers of what was asked for (of sizes they are its fields, of an action `Actions.action_kind` and the three
 -- after it), which stay as they were where the call is refused
 unfoldable pub reply_number : {A : Type 0} → Result A → ℕ
 reply_number (refused k place) = k

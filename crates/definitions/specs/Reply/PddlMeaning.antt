@@ -1,6 +1,6 @@
 -- What PDDL makes of three texts, a domain, an instance and a plan: the language's STRIPS part (conjunctions of atoms; effects that add atoms,
 -- or remove them under `not`), without types and comments. Nothing here knows of cases or of how `Pddl` writes: a text is its bytes, in
--- whatever layout, and case is ignored. This is what has to be believed of PDDL: `Demands`, 24 (`texts-mean`), holds the bytes that are written
+-- whatever layout, and case is ignored. This is what has to be believed of PDDL: `Demands`, 24 (`texts_mean`), holds the bytes that are written
 -- of a case, and those of a plan, to it.
 use Rattle.std.specs.Prelude.{ℕ, Bool, true, false, not, ◌&&◌, ◌||◌, List, [], ◌∷◌, ◌++◌, map, length, get_or, drop, eqb, if◌then◌else◌}
 use Rattle.std.proofs.Math.Option.{Option, none, some}

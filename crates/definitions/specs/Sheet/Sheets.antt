@@ -49,7 +49,7 @@ kind_named f =
     else none
 
 -- what a `choose` line has: a name; then a function kind, which has arity 2, or an arity; after a function kind there may be two types.
--- (A name that no type has is no fault of the form: `addChoose` refuses it with 19.)
+-- (A name that no type has is no fault of the form: `add_choose` refuses it with 19.)
 unfoldable pub choose_of : List Text → Option Entry
 choose_of [] = none
 choose_of (name ∷ []) = none

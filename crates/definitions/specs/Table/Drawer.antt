@@ -89,7 +89,7 @@ is_so (rule_is q rule) = same (take (rule_part (bytes q)).len (drop (rule_part (
 is_so (passes q s) = case_is_accepted usual (bytes q) (bytes s)
 is_so (refuses q s k place) = refusal_matches (sizes usual (bytes q) (bytes s)) k place
 
--- opens what `isSo` uses
+-- opens what `is_so` uses
 unfoldable pub claims : Unit {0}
 unfolding sizes_match refusal_matches steps_match count_matches answer_matches details_of action_matches state sixty_four
 claims = tt

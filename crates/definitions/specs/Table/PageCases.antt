@@ -50,7 +50,7 @@ nine_s = "size\t1\nlabel\t0\tABCDEFGHI\n"
 unfoldable pub twelve_s : String
 twelve_s = "size\t1\nlabel\t0\tABCDEFGHIJKL\n"
 
--- an `every` line with a name of twelve bytes and arity 2; the steps of the four rounds of `lostQ` on two elements
+-- an `every` line with a name of twelve bytes and arity 2; the steps of the four rounds of `lost_q` on two elements
 unfoldable pub cards_q : String
 cards_q = "choose\tT\t2\nevery\tLOST_CARDS_2\t2\nrule\t(forall (?x ?y) (or (not (LOST_CARDS_2 ?x ?y)) (T ?x ?y)))\n"
 

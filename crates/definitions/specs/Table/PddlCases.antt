@@ -55,7 +55,7 @@ is_so (plans q s steps b) =
     && lifted_is (ready_for_pddl usual (bytes q) (bytes s) nothing >>= λ r. plan_of r.problem steps >>= λ plan. accepted (is_plan_of (domain_text r.case) (instance_text r.case) (plan_text r.case plan))) b
     && lifted_is (accepted (is_accepted (check_steps usual (bytes q) (bytes s) (as_numbers steps) state).answer)) b
 
--- opens what `isSo` uses
+-- opens what `is_so` uses
 unfoldable pub claims : Unit {0}
 unfolding answer_matches refusal_matches state sevens wrote kept lifted_is sheet_q sheet_s sat_q sat_s one_q one_s inj_q inj_s
 claims = tt

@@ -27,7 +27,7 @@ use Rattle.demands.specs.Columns.{columns, unspaced, head_read, page_read}
 use Rattle.laws.specs.Refusals
 
 -- ---- 19, document 02, job 9. A step's lines have its head beside the first, and beside all of them, in order, its units: none is cut, and
--- none is lost. (`lines_are` and `units-are` say so.)
+-- none is lost. (`lines_are` and `units_are` say so.)
 pub paper_uncut : (labels : List Label) (p : Problem) (i k : ℕ) (a : Action) → Paper.Uncut labels p i k a
 paper_uncut = Paper.uncut
 

@@ -1,5 +1,5 @@
 -- Document 02, job 11, section 24 of the demands: to and from PDDL. What has to be believed is what PDDL makes of three texts' bytes,
--- `PddlMeaning`; `texts-mean` holds what is written to it. `Lifted` and `unground` are a step of its proof.
+-- `PddlMeaning`; `texts_mean` holds what is written to it. `Lifted` and `unground` are a step of its proof.
 use Prim.Native.Nat.{ℕ, zero, ◌-◌, ◌<◌, ◌≤◌}
 use Rattle.std.specs.Prelude.{◌≡◌, ◌↔◌, true, false, ◌||◌, ltb, length}
 use Rattle.std.proofs.Common.{sym, ap, subst, ◌∙◌, arith}
@@ -60,7 +60,7 @@ module _ (L : CaseLimits) (few : L.elements ≤ 64) (question site : List ℕ) (
 
   -- Where the case has no `type` line and no `every` line:
   module _ (no_types_lem : c.question.types ≡ []) (no_every : c.question.every ≡ none) where
-    -- (A step of the proof: `texts-mean` below says the same of bytes, and who believes `PddlMeaning` needs no more.) Such steps reach the goal
+    -- (A step of the proof: `texts_mean` below says the same of bytes, and who believes `PddlMeaning` needs no more.) Such steps reach the goal
     -- exactly if their plan is one under the unground domain: every step's action is found by its name, the step's objects stand for its
     -- parameters, and all is so that it needs, after the steps before it and from the instance's facts on. The domain's actions and the
     -- instance's facts are read off the question's tree and the site (`Lifted`, which fixes what is written).

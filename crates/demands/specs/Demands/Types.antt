@@ -109,7 +109,7 @@ module _ (L : CaseLimits) (few : L.elements ≤ 64) (question site : List ℕ) (
       → z < c.site.size → (Memᴰ z (members_of c s) → ⊥) → (steps : List ℕ) → (run (problem_of c) steps).state (atom_number (problem_of c) (holds_node v (row * c.site.size + z))) ≡ false
   outside_false = OutsideTypes.outside_false c fits_case
 
--- Atom numbers do not move: whatever types a case has, its atoms are, number for number, those of the case without them (`plainCase`: no
+-- Atom numbers do not move: whatever types a case has, its atoms are, number for number, those of the case without them (`plain_case`: no
 -- `type` and no `member` line, and no type in the rule or of a `choose`).
 pub atoms_stay : (c : Case) (i : ℕ) → item_at (atom_blocks (problem_of c)) i ≡ item_at (atom_blocks (problem_of (plain_case c))) i
 atoms_stay c i = ap (λ (bs : List (Block Atom)). item_at bs i) (AtomsStay.atoms_stay c)

@@ -8,7 +8,8 @@ use Rattle.problem_table.specs.Lines.{relation_place, node_place, RangeFits, Pla
 use Rattle.problem_table.specs.Numbers.{is_whole, ActFits}
 use Rattle.problem_table.specs.NeedLaws.{set_row_small}
 use Rattle.problem_table.specs.declared.Act.{Act}
-use Rattle.problem_action.specs.Found.{sets_begin, acts_begin, found_pair, found_set, found_begin, found_proof, found_counted, found_goal, found_mark, mark_fits, finish_fits, proof_fits}
+use Rattle.problem_action.specs.Found.{sets_begin, acts_begin, found_pair, found_set, found_begin, found_counted, found_goal, found_mark, mark_fits, finish_fits, proof_fits}
+use Rattle.problem_action.proofs.Proved.{found_proof}
 use Rattle.problem_action.proofs.action_at.Goals as goal
 use Rattle.problem_action.proofs.action_at.Goals.{After-relation_line-line}
 
