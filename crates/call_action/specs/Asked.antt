@@ -1,5 +1,6 @@
--- An action asked for by its number: the code's enum as the definitions' action, and the three answers.
-use Rattle.std.specs.Prelude.{ℕ, ◌<◌, ◌≤◌, ◌≡◌, List}
+-- An action asked for by its number: what the code answers as the definitions' action, and the three answers.
+use Rattle.std.specs.Prelude.{ℕ, ◌<◌, ◌≤◌, ◌≡◌, List, Ok, Err}
+use Rattle.std.specs.Prelude as P
 use Rattle.std.proofs.Math.Path.{refl, sym, ap}
 use Rattle.std.proofs.Common.{◌∙◌, arith}
 use Rattle.std.proofs.Math.Option.{Option, none, some}
@@ -18,10 +19,13 @@ use Rattle.laws.specs.Asked as Order
 use Rattle.laws.specs.Alone
 use Rattle.problem_of_case.specs.Grounds.{Tabled}
 use Rattle.open_case.specs.declared.Front.{Front}
-use Rattle.open_case.specs.Fronts.{Fronted, Held, front_refused, front_held}
+use Rattle.refusal.specs.declared.Refusal.{Refusal}
+use Rattle.refusal.specs.declared.Cause.TheVariants.{NoAction}
+use Rattle.refusal.specs.Numbers.{number_of}
+use Rattle.refusal.specs.Told.{told}
+use Rattle.problem_of_case.specs.declared.Sized.{Sized}
+use Rattle.open_case.specs.Fronts.{Fronted}
 use Rattle.open_case.specs.Known.{case_over, grounds, tabled, table_is}
-use Rattle.call_action.specs.declared.Asked.{Asked}
-use Rattle.call_action.specs.declared.Asked.TheVariants.{Action as Known, Refused}
 
 -- the definitions' action of the code's, which has one case more
 unfoldable pub heard : Act → Option Action
@@ -37,9 +41,8 @@ heard (MarkIn a) = some (mark_in a.relation a.row)
 heard (MarkOut a) = some (mark_out a.relation a.row)
 heard Nothing = none
 
-unfoldable pub action_of : Asked → Result (Option Action)
-action_of (Known a) = accepted (heard a)
-action_of (Refused k place) = refused k place
+abbrev pub action_of : P.Result Act Refusal → Result (Option Action)
+action_of r = told heard r
 
 unfoldable pub found : Result Action → Result (Option Action)
 found r = r >>= λ a. accepted (some a)
@@ -57,53 +60,50 @@ heard_said round_end = refl
 heard_said (mark_in r row) = refl
 heard_said (mark_out r row) = refl
 
-module _ (L : CaseLimits) (question site : List ℕ) (k : ℕ) (r : Front) (facts table : List ℕ) (opens : Fronted L question site r facts table) where
+module _ (L : CaseLimits) (question site : List ℕ) (k : ℕ) where
   abbrev asks : Result (Option Action)
   asks = found (Outcome.action L question site k)
 
-  refused_with : (j place : ℕ) → Outcome.asked L question site Outcome.nothing Outcome.nothing Outcome.nothing Outcome.nothing ≡ refused j place → action_of (Refused j place) ≡ asks
-  unfolding action_of found Outcome.action ◌>>=◌
-  refused_with j place e = rw e refl
+  refused_with : (e : Refusal) → Outcome.asked L question site Outcome.nothing Outcome.nothing Outcome.nothing Outcome.nothing ≡ refused (number_of e.cause) e.place → action_of (Err e) ≡ asks
+  unfolding found Outcome.action ◌>>=◌
+  refused_with e h = rw h refl
 
-  pub asked_case : (r.fault ≡ 0 → ⊥) → action_of (Refused r.fault r.place) ≡ asks
-  asked_case z = refused_with _ _ (Order.case_refused L question site _ _ _ _ _ _ (front_refused L question site r facts table opens z))
+  pub asked_case : (e : Refusal) → Outcome.read_case L question site ≡ refused (number_of e.cause) e.place → action_of (Err e) ≡ asks
+  asked_case e h = refused_with e (Order.case_refused L question site _ _ _ _ _ _ h)
 
-  module _ (z : r.fault ≡ 0) where
-    -- the case that was read
-    abbrev its : (c : Case) × (Outcome.read_case L question site ≡ accepted c) × Held L question c r facts table
-    its = front_held L question site r facts table opens z
+  -- the case that was read
+  module _ (r : Front) (facts table : List ℕ) (its : Fronted L question site (Ok r) facts table) where
+    pub asked_over : (e : Refusal) → r.m ≡ Err e → action_of (Err e) ≡ asks
+    asked_over e t =
+        let (c, i, h) = its in
+        refused_with e (Alone.limits_refused L question site _ _ _ _ c i tt (λ _. Order.untested _) (Order.untested c) _ _ (case_over L c _ _ h.grounded e t))
 
-    pub asked_over : (r.m.refusal ≡ 0 → ⊥) → action_of (Refused r.m.refusal 0) ≡ asks
-    asked_over t =
-        let (c, e, h) = its in
-        refused_with _ _ (Alone.limits_refused L question site _ _ _ _ c e tt (λ _. Order.untested _) (Order.untested c) _ _ (case_over L c _ _ h.grounded t))
-
-    module _ (f : r.m.refusal ≡ 0) where
+    module _ (m : Sized) (f : r.m ≡ Ok m) where
       abbrev p : Problem
       p = problem_of its.0
 
-      counts : Tabled p r.m table
-      counts = tabled L its.0 _ _ its.2.grounded f
+      counts : Tabled p m table
+      counts = tabled L its.0 _ _ its.2.grounded _ f
 
       asks_is : asks ≡ found (given (action_at p k) 13 k)
       unfolding Outcome.action ◌>>=◌
       asks_is =
           let (c, e, h) = its in
-          rw (Alone.ready L question site Outcome.nothing Outcome.nothing Outcome.nothing Outcome.nothing c e tt (λ _. Order.untested _) (Order.untested c) p (grounds L c _ _ h.grounded f) (Order.untested c) (Order.untested p)) refl
+          rw (Alone.ready L question site Outcome.nothing Outcome.nothing Outcome.nothing Outcome.nothing c e tt (λ _. Order.untested _) (Order.untested c) p (grounds L c _ _ h.grounded _ f) (Order.untested c) (Order.untested p)) refl
 
       pub asked_table : Grounded table
-      asked_table = table_is L its.0 _ _ its.2.grounded f
+      asked_table = table_is L its.0 _ _ its.2.grounded _ f
 
-      pub asked_none : r.m.actions ≤ k → action_of (Refused 13 k) ≡ asks
-      unfolding action_of found given ◌>>=◌
+      pub asked_none : m.actions ≤ k → action_of (Err (record { cause = NoAction; place = k })) ≡ asks
+      unfolding found given ◌>>=◌
       asked_none l = by_option (action_at p k) refl ∙ sym asks_is
         where
           by_option : (x : Option Action) → action_at p k ≡ x → refused 13 k ≡ found (given x 13 k)
           by_option none e = refl
           by_option (some a) e = let u = action_below p k a e in let v = counts.actions_are in absurd (omega arith)
 
-      pub asked_known : k < r.m.actions → (a : Act) → ((p : Problem) → Is p table → a ≡ act_of (action_at p k)) → action_of (Known a) ≡ asks
-      unfolding action_of found given act_of ◌>>=◌
+      pub asked_known : k < m.actions → (a : Act) → ((p : Problem) → Is p table → a ≡ act_of (action_at p k)) → action_of (Ok a) ≡ asks
+      unfolding found given act_of ◌>>=◌
       asked_known l a q =
           let (x, e) = action_some p k (let v = counts.actions_are in omega arith) in
           ap (λ (b : Act). accepted (heard b)) (q p counts.is ∙ ap act_of e) ∙ ap accepted (heard_said x) ∙ sym (asks_is ∙ ap (λ (y : Option Action). found (given y 13 k)) e)

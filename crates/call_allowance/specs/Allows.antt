@@ -7,7 +7,7 @@ use Rattle.std.proofs.Math.Decide.{ℕ_discrete}
 use Rattle.std.proofs.Math.ListN.{length, drop, length-map}
 use Rattle.definitions.specs.Limits.{CaseLimits}
 use Rattle.definitions.specs.Lists.{is_some, from}
-use Rattle.definitions.specs.Refusal.{Result, refused, accepted, ◌>>=◌, refuse_if}
+use Rattle.definitions.specs.Refusal.{Result, refused, accepted, refuse_if}
 use Rattle.definitions.specs.Problem.Truth.{Case}
 use Rattle.definitions.specs.Problem.Atoms.{Problem, problem_of}
 use Rattle.definitions.specs.Problem.Built.{chosen_numbers}
@@ -23,11 +23,13 @@ use Rattle.problem_table.specs.NeedLaws.{get_d_map}
 use Rattle.problem_layout.specs.declared.Relations.{Relations}
 use Rattle.problem_layout.specs.Laid.{Inputs}
 use Rattle.read_sheets.specs.declared.Opened.{Opened}
-use Rattle.read_sheets.specs.Opening.{Holds, CaseRead, case_refused, case_read}
-use Rattle.open_case.specs.declared.Reply.{Reply}
-use Rattle.open_case.specs.declared.Reply.TheVariants.{Accepted, Refused}
+use Rattle.read_sheets.specs.Opening.{Holds, CaseRead}
+use Rattle.refusal.specs.declared.Refusal.{Refusal}
+use Rattle.refusal.specs.declared.Cause.TheVariants.{HasEvery, ShortBuffer}
+use Rattle.refusal.specs.Numbers.{number_of}
+use Rattle.std.specs.Prelude.{Ok, Err}
 use Rattle.open_case.specs.Known.{room_short, room_there}
-use Rattle.open_case.specs.Replies.{result_of}
+use Rattle.open_case.specs.Replies.{Reply, result_of}
 use Rattle.step_picks.specs.Picked.{chosen_numbers_lem}
 
 -- what the call answers and leaves
@@ -35,39 +37,35 @@ abbrev pub Allows : CaseLimits → (question site old : List ℕ) → Reply → 
 Allows L question site old r new =
     (result_of r ≡ (Allowance.allowances L question site old).answer) × (new ≡ (Allowance.allowances L question site old).allowances)
 
-module _ (L : CaseLimits) (question site old : List ℕ) (o : Opened) (facts : ℕ → Bool) (read : CaseRead question (read_case L question site) o facts) where
+module _ (L : CaseLimits) (question site old : List ℕ) where
   abbrev rooms : Problem → Result (Unit {0})
   rooms p = room_for (length (chosen_numbers p)) (length old)
 
-  refused_with : (k place : ℕ) → asked L question site nothing nothing without_every rooms ≡ refused k place → Allows L question site old (Refused k place) old
-  unfolding Allowance.allowances Allowance.allowed_from result_of
-  refused_with k place e = (rw e refl, rw e refl)
+  refused_with : (e : Refusal) → asked L question site nothing nothing without_every rooms ≡ refused (number_of e.cause) e.place → Allows L question site old (Err e) old
+  unfolding Allowance.allowances Allowance.allowed_from
+  refused_with e h = (rw h refl, rw h refl)
 
-  pub allows_refused : (o.fault ≡ 0 → ⊥) → Allows L question site old (Refused o.fault o.place) old
-  allows_refused z = refused_with _ _ (Asked.case_refused L question site nothing nothing without_every rooms _ _ (case_refused L question site o facts read z))
+  pub allows_refused : (e : Refusal) → read_case L question site ≡ refused (number_of e.cause) e.place → Allows L question site old (Err e) old
+  allows_refused e h = refused_with e (Asked.case_refused L question site nothing nothing without_every rooms _ _ h)
 
-  module _ (z : o.fault ≡ 0) where
-    -- the case that was read
-    abbrev pub its : (c : Case) × (read_case L question site ≡ accepted c) × Holds question c o facts
-    its = case_read L question site o facts read z
-
+  module _ (o : Opened) (facts : ℕ → Bool) (its : (c : Case) × (read_case L question site ≡ accepted c) × Holds question c o facts) where
     abbrev p : Problem
     p = problem_of its.0
 
-    pub allows_over : (k : ℕ) → ground L its.0 ≡ refused k 0 → Allows L question site old (Refused k 0) old
-    allows_over k e = refused_with k 0 (Alone.limits_refused L question site nothing nothing without_every rooms its.0 its.1 tt (λ _. Asked.untested _) (Asked.untested its.0) k 0 e)
+    pub allows_over : (e : Refusal) → ground L its.0 ≡ refused (number_of e.cause) e.place → Allows L question site old (Err e) old
+    allows_over e g = refused_with e (Alone.limits_refused L question site nothing nothing without_every rooms its.0 its.1 tt (λ _. Asked.untested _) (Asked.untested its.0) (number_of e.cause) e.place g)
 
     module _ (grounded : ground L its.0 ≡ accepted p) (every : Bool) (told : every ≡ is_some its.0.question.every) where
       tested : without_every its.0 ≡ refuse_if every 23 0
       unfolding without_every
       tested = ap (λ (b : Bool). refuse_if b 23 0) (sym told)
 
-      pub allows_every : every ≡ true → Allows L question site old (Refused 23 0) old
+      pub allows_every : every ≡ true → Allows L question site old (Err (record { cause = HasEvery; place = 0 })) old
       unfolding refuse_if
       allows_every e =
           let (labels, f) = Asked.case_filed L question site its.0 its.1 in
           let late : without_every its.0 ≡ refused 23 0 = tested ∙ ap (λ (b : Bool). refuse_if b 23 0) e in
-          refused_with 23 0 (Asked.late_refused L question site nothing nothing without_every rooms _ f tt (Asked.untested _) (Asked.untested its.0) p grounded 23 0 late)
+          refused_with (record { cause = HasEvery; place = 0 }) (Asked.late_refused L question site nothing nothing without_every rooms _ f tt (Asked.untested _) (Asked.untested its.0) p grounded 23 0 late)
 
       module _ (few : L.elements ≤ 64) (alone : every ≡ false) where
         late : without_every its.0 ≡ accepted tt
@@ -83,15 +81,15 @@ module _ (L : CaseLimits) (question site old : List ℕ) (o : Opened) (facts : �
         many : length (chosen_numbers p) ≡ o.sig.chosen
         many = ap length numbers ∙ length_from (5 + o.sig.rels) o.sig.chosen
 
-        pub allows_short : length old < o.sig.chosen → Allows L question site old (Refused 12 o.sig.chosen) old
+        pub allows_short : length old < o.sig.chosen → Allows L question site old (Err (record { cause = ShortBuffer; place = o.sig.chosen })) old
         allows_short l =
             let (c, a, h) = its in
             let short : rooms p ≡ refused 12 o.sig.chosen = ap (λ (k : ℕ). room_for k (length old)) many ∙ room_short o.sig.chosen (length old) l in
-            refused_with 12 _ (Alone.room_refused L question site nothing nothing without_every rooms c a tt (λ _. Asked.untested _) (Asked.untested c) p grounded late 12 _ short)
+            refused_with (record { cause = ShortBuffer; place = _ }) (Alone.room_refused L question site nothing nothing without_every rooms c a tt (λ _. Asked.untested _) (Asked.untested c) p grounded late 12 _ short)
 
         pub allows_written : o.sig.chosen ≤ length old → (part new : List ℕ) → ((c : Case) → Accepts c → Holds question c o facts → part ≡ map (Allowance.allowance (problem_of c)) (from (5 + o.sig.rels) o.sig.chosen))
-            → new ≡ part ++ drop o.sig.chosen old → Allows L question site old (Accepted 0) new
-        unfolding written Allowance.allowances Allowance.allowed_from Allowance.allowances_of result_of
+            → new ≡ part ++ drop o.sig.chosen old → Allows L question site old (Ok 0) new
+        unfolding written Allowance.allowances Allowance.allowed_from Allowance.allowances_of
         allows_written l part new e n =
             let (c, a, h) = its in
             let f = Allowance.allowance p in

@@ -20,24 +20,23 @@ ghost use Rattle.call_allowance.specs.Allows.{Allows};
 
 use open_case::Reply;
 use read_sheets::Opened;
+use refusal::Cause;
 
 // The allowances of the relations from number `first` on, one into each word.
 fn write(n: usize, t: rule_nodes::Nodes, first: usize, out: &mut [u64])
     requires { (0 < n) × (n ≤ 64) × Fits t × (first + length out.old < 2 ^ 32) }
     ensures { (p : Problem) (w : List ℕ) (types : ℕ) (g : Relations) → Good p → Inputs p n w types g t → out.new ≡ map (allowance p) (from first (length out.old)) }
 {
-    let mut k: usize = 0;
-    while k < out.len() {
-        let x = problem_mentions::allowance(n, t, first + k);
-        out[k] = x as u64;
-        k += 1;
+    for (k, word) in out.iter_mut().enumerate() {
+        let moved = problem_mentions::allowance(n, t, first + k);
+        *word = moved as u64;
     }
 }
 
 // Of a case that was read: 11, 23 of any case with an `every` line, 12, then the numbers.
 fn of_case(question: &[u8], o: Opened, out: &mut [u64]) -> Reply
     requires { Read question.now o }
-    ensures { (site : List ℕ) (facts : ℕ → Bool) → CaseRead question.now (read_case usual question.now site) o facts → o.fault ≡ 0
+    ensures { (site : List ℕ) (facts : ℕ → Bool) → CaseRead question.now (read_case usual question.now site) (Ok o) facts
         → Allows usual question.now site out.old result out.new }
 {
     let sig = o.sig;
@@ -48,19 +47,16 @@ fn of_case(question: &[u8], o: Opened, out: &mut [u64]) -> Reply
     let g = problem_of_case::relations_of(sig);
     let t = rule_rewrite::nodes_of(question, rule.from, rule.to, sig);
     let m = problem_sizes::of_tables(n, ranges, g, t);
-    let k = problem_sizes::refusal(m, open_case::usual_limits());
-    if k != 0 {
-        return Reply::Refused(k, 0);
-    }
+    problem_of_case::within(m, open_case::usual_limits())?;
     if m.every {
-        return Reply::Refused(23, 0);
+        return Err(Cause::HasEvery.at(0));
     }
     let count = sig.chosen;
     if out.len() < count {
-        return Reply::Refused(12, count);
+        return Err(Cause::ShortBuffer.at(count));
     }
     write(n, t, 5 + sig.rels, &mut out[..count]);
-    Reply::Accepted(0)
+    Ok(0)
 }
 
 // One number for each `choose`, in order, at the front of the lent buffer, with the lent words for the site's facts.
@@ -68,10 +64,7 @@ fn allowances_in(question: &[u8], site: &[u8], out: &mut [u64], facts: &mut [u64
     requires { FactsRoom site.now 64 (length facts.old) × (bit facts.old ≡ λ i. false) }
     ensures { Allows usual question.now site.now out.old result out.new }
 {
-    let o = read_sheets::read_case(question, site, open_case::ELEMENTS, facts);
-    if o.fault != 0 {
-        return Reply::Refused(o.fault, o.place);
-    }
+    let o = read_sheets::read_case(question, site, open_case::ELEMENTS, facts)?;
     of_case(question, o, out)
 }
 
@@ -80,10 +73,7 @@ pub fn allowances(question: &[u8], site: &[u8], out: &mut [u64]) -> Reply
     ensures answer { result_of result ≡ («allowances_of» usual question.now site.now out.old).answer }
     ensures left { out.new ≡ («allowances_of» usual question.now site.now out.old).allowances }
 {
-    if open_case::is_small(site) {
-        let mut few = [0u64; open_case::FEW];
-        return allowances_in(question, site, out, &mut few);
-    }
-    let mut facts = [0u64; open_case::FACTS];
-    allowances_in(question, site, out, &mut facts)
+    open_room::with_facts_into(site, out, |facts: &mut [u64], out: &mut [u64]| {
+        allowances_in(question, site, out, facts)
+    })
 }

@@ -1,5 +1,6 @@
 -- What the calls that build layers answer and leave: one law for each place where a call can end.
-use Rattle.std.specs.Prelude.{ℕ, zero, ◌+◌, ◌/◌, ◌≤◌, ◌<◌, ◌≡◌, List, take}
+use Rattle.std.specs.Prelude.{ℕ, zero, ◌+◌, ◌/◌, ◌≤◌, ◌<◌, ◌≡◌, List, take, Ok, Err, Some, None}
+use Rattle.std.specs.Prelude as P
 use Rattle.std.proofs.Math.Path.{refl, sym, ap}
 use Rattle.std.proofs.Common.{subst, ◌∙◌, arith, take_all}
 use Rattle.std.proofs.Math.Option.{none}
@@ -19,16 +20,16 @@ use Rattle.problem_of_case.specs.Grounds.{Tabled}
 use Rattle.step_build.specs.Starts.{Prepared, front_short}
 use Rattle.meaning.specs.Layered.{built_numbers}
 use Rattle.step_picks.specs.Picked.{front_picks}
-use Rattle.step_picks.specs.Spare.{spare_found}
+use Rattle.step_picks.specs.Tests.{told}
 use Rattle.step_picks.specs.Handed.{Handed, spare_refused, spare_clear}
-use Rattle.step_picks.specs.declared.Spare.{Spare}
-use Rattle.step_picks.specs.declared.Spare.TheVariants.{Clear, Word}
+use Rattle.refusal.specs.declared.Refusal.{Refusal}
+use Rattle.refusal.specs.declared.Cause.TheVariants.{Repeated, ShortBuffer, HasEvery}
+use Rattle.refusal.specs.Numbers.{number_of}
+use Rattle.problem_of_case.specs.declared.Sized.{Sized}
 use Rattle.open_case.specs.declared.Front.{Front}
-use Rattle.open_case.specs.declared.Reply.{Reply}
-use Rattle.open_case.specs.declared.Reply.TheVariants.{Refused}
 use Rattle.open_case.specs.Fronts.{Held, Filed}
 use Rattle.open_case.specs.Known.{every_none, every_some, facts_held, case_over, grounds, tabled, actions_few, tuples_few, words_are, room_short, room_there}
-use Rattle.open_case.specs.Replies.{result_of}
+use Rattle.open_case.specs.Replies.{Reply, result_of}
 use Rattle.call_build_layers.specs.Layers.{layered, GivesLayers}
 use Rattle.call_build_layers.specs.Upper.{upper_few}
 
@@ -66,14 +67,14 @@ module _ (L : CaseLimits) (question site : List ℕ) (picks : Outcome.ThirdInput
         ),
       )
 
-  plan_refused : (k place : ℕ) → its_plan ≡ refused k place → (r : Reply) → result_of r ≡ refused k place → Answers L question site picks state steps ends r state steps ends
+  plan_refused : (e : Refusal) → its_plan ≡ refused (number_of e.cause) e.place → Answers L question site picks state steps ends (Err e) state steps ends
   unfolding Side.layers_built_from
-  plan_refused k place e r q = from_plan (refused k place) e r state steps ends (rw q refl)
+  plan_refused e h = from_plan (refused (number_of e.cause) e.place) h (Err e) state steps ends refl
 
   -- refused before the picks are taken
-  pub stops : (k place : ℕ) → opening ≡ refused k place → (r : Reply) → result_of r ≡ refused k place → Answers L question site picks state steps ends r state steps ends
+  pub stops : (e : Refusal) → opening ≡ refused (number_of e.cause) e.place → Answers L question site picks state steps ends (Err e) state steps ends
   unfolding Side.layered_plan rooms ◌>>=◌
-  stops k place e r q = plan_refused k place (rw e refl) r q
+  stops e h = plan_refused e (rw h refl)
 
   -- ---- the places where building from words can end
   module _ (x : Outcome.CaseRead) (read : Outcome.read_filed L question site ≡ accepted x) (f : Front) (facts table : List ℕ) (h : Held L question x.case f facts table)
@@ -84,95 +85,90 @@ module _ (L : CaseLimits) (question site : List ℕ) (picks : Outcome.ThirdInput
     abbrev p : Problem
     p = problem_of c
 
-    pub builds_over : (f.m.refusal ≡ 0 → ⊥) → Answers L question site picks state steps ends (Refused f.m.refusal 0) state steps ends
-    unfolding result_of
-    builds_over o =
-        stops _ _ (Order.limits_refused L question site _ _ _ _ x read given handed.is_read (Order.untested c) _ _ (case_over L c f.m table h.grounded o))
-        (Refused f.m.refusal 0) refl
+    pub builds_over : (e : Refusal) → f.m ≡ Err e → Answers L question site picks state steps ends (Err e) state steps ends
+    builds_over e o =
+        stops e (Order.limits_refused L question site _ _ Outcome.without_every _ x read given handed.is_read (Order.untested c) _ _ (case_over L c f.m table h.grounded e o))
 
-    module _ (o : f.m.refusal ≡ 0) where
-      abbrev its : Tabled p f.m table
-      its = tabled L c f.m table h.grounded o
+    module _ (m : Sized) (o : f.m ≡ Ok m) where
+      abbrev its : Tabled p m table
+      its = tabled L c f.m table h.grounded m o
 
-      abbrev count : (f.m.atoms + 63) / 64 ≡ Outcome.state_length p
-      count = words_are L c f.m table h.grounded o
+      abbrev count : (m.atoms + 63) / 64 ≡ Outcome.state_length p
+      count = words_are L c f.m table h.grounded m o
 
-      pub builds_every : (f.o.sig.every ≡ 0 → ⊥) → Answers L question site picks state steps ends (Refused 23 0) state steps ends
-      unfolding result_of
+      pub builds_every : (f.o.sig.every ≡ 0 → ⊥) → Answers L question site picks state steps ends (Err (record { cause = HasEvery; place = 0 })) state steps ends
       builds_every n =
           let (k, q) = every_some question c _ _ h.holds n in
-          stops 23 0 (Order.late_refused L question site _ _ Outcome.without_every _ x read given handed.is_read (Order.untested c) p (grounds L c f.m table h.grounded o) 23 0 (Order.every_fails c k q))
-          (Refused 23 0) refl
+          stops (record { cause = HasEvery; place = 0 })
+          (Order.late_refused L question site _ _ Outcome.without_every _ x read given handed.is_read (Order.untested c) p (grounds L c f.m table h.grounded m o) 23 0 (Order.every_fails c k q))
 
       module _ (z : f.o.sig.every ≡ 0) where
         alone : c.question.every ≡ none
         alone = every_none question c _ _ h.holds z
 
-        no_room : (k place : ℕ) → rooms picks (length state) (length steps) (length ends) p ≡ refused k place → (r : Reply) → result_of r ≡ refused k place
-            → Answers L question site picks state steps ends r state steps ends
-        no_room k place j =
-            stops k place (Order.room_refused L question site _ _ Outcome.without_every _ x read given handed.is_read (Order.untested c) p (grounds L c f.m table h.grounded o)
-            (Order.every_passes c alone) k place j)
+        no_room : (k place : ℕ) → rooms picks (length state) (length steps) (length ends) p ≡ refused k place → opening ≡ refused k place
+        no_room = Order.room_refused L question site _ _ Outcome.without_every _ x read given handed.is_read (Order.untested c) p (grounds L c f.m table h.grounded m o) (Order.every_passes c alone)
 
         module _ (k : ℕ) (q : k ≡ Outcome.picks_length p) where
-          pub builds_picks : length words < k → Answers L question site picks state steps ends (Refused 12 k) state steps ends
-          unfolding rooms result_of ◌>>=◌
+          pub builds_picks : length words < k → Answers L question site picks state steps ends (Err (record { cause = ShortBuffer; place = k })) state steps ends
+          unfolding rooms ◌>>=◌
           builds_picks l =
-              no_room 12 (Outcome.picks_length p) (rw (handed.room_is, room_short (Outcome.picks_length p) (length words) (subst (λ (x : ℕ). length words < x) q l)) refl) (Refused 12 k) (ap (refused 12) q)
+              let b = room_short (Outcome.picks_length p) (length words) (subst (λ (x : ℕ). length words < x) q l) in
+              stops (record { cause = ShortBuffer; place = k }) (no_room 12 (Outcome.picks_length p) (rw (handed.room_is, b) refl) ∙ ap (refused 12) (sym q))
 
           module _ (picks_room_lem : k ≤ length words) where
             first_room : Outcome.picks_room p picks ≡ accepted tt
             first_room = handed.room_is ∙ room_there (Outcome.picks_length p) (length words) (subst (λ (x : ℕ). x ≤ length words) q picks_room_lem)
 
-            pub builds_state : length state < (f.m.atoms + 63) / 64 → Answers L question site picks state steps ends (Refused 12 ((f.m.atoms + 63) / 64)) state steps ends
-            unfolding rooms result_of ◌>>=◌
+            pub builds_state : length state < (m.atoms + 63) / 64 → Answers L question site picks state steps ends (Err (record { cause = ShortBuffer; place = (m.atoms + 63) / 64 })) state steps ends
+            unfolding rooms ◌>>=◌
             builds_state l =
                 let b = room_short (Outcome.state_length p) (length state) (subst (λ (x : ℕ). length state < x) count l) in
-                no_room 12 (Outcome.state_length p) (rw (first_room, b) refl) (Refused 12 ((f.m.atoms + 63) / 64)) (ap (refused 12) count)
+                stops (record { cause = ShortBuffer; place = (m.atoms + 63) / 64 }) (no_room 12 (Outcome.state_length p) (rw (first_room, b) refl) ∙ ap (refused 12) (sym count))
 
-            module _ (state_room : (f.m.atoms + 63) / 64 ≤ length state) where
+            module _ (state_room : (m.atoms + 63) / 64 ≤ length state) where
               second_room : Outcome.room_for (Outcome.state_length p) (length state) ≡ accepted tt
               second_room = room_there (Outcome.state_length p) (length state) (subst (λ (x : ℕ). x ≤ length state) count state_room)
 
-              pub builds_steps : length steps < f.m.bound → Answers L question site picks state steps ends (Refused 12 f.m.bound) state steps ends
-              unfolding rooms result_of ◌>>=◌
+              pub builds_steps : length steps < m.bound → Answers L question site picks state steps ends (Err (record { cause = ShortBuffer; place = m.bound })) state steps ends
+              unfolding rooms ◌>>=◌
               builds_steps l =
                   let b = room_short (bound p) (length steps) (subst (λ (x : ℕ). length steps < x) its.bound_is l) in
-                  no_room 12 (bound p) (rw (first_room, second_room, b) refl) (Refused 12 f.m.bound) (ap (refused 12) its.bound_is)
+                  stops (record { cause = ShortBuffer; place = m.bound }) (no_room 12 (bound p) (rw (first_room, second_room, b) refl) ∙ ap (refused 12) (sym its.bound_is))
 
-              module _ (steps_room : f.m.bound ≤ length steps) (upper : ℕ) (most : upper ≡ (Side.case_window p).upper) where
+              module _ (steps_room : m.bound ≤ length steps) (upper : ℕ) (most : upper ≡ (Side.case_window p).upper) where
                 third_room : Outcome.room_for (bound p) (length steps) ≡ accepted tt
                 third_room = room_there (bound p) (length steps) (subst (λ (x : ℕ). x ≤ length steps) its.bound_is steps_room)
 
-                pub builds_ends : length ends < upper → Answers L question site picks state steps ends (Refused 12 upper) state steps ends
-                unfolding rooms result_of ◌>>=◌
+                pub builds_ends : length ends < upper → Answers L question site picks state steps ends (Err (record { cause = ShortBuffer; place = upper })) state steps ends
+                unfolding rooms ◌>>=◌
                 builds_ends l =
                     let b = room_short (Side.case_window p).upper (length ends) (subst (λ (x : ℕ). length ends < x) most l) in
-                    no_room 12 (Side.case_window p).upper (rw (first_room, second_room, third_room, b) refl) (Refused 12 upper) (ap (refused 12) most)
+                    stops (record { cause = ShortBuffer; place = upper }) (no_room 12 (Side.case_window p).upper (rw (first_room, second_room, third_room, b) refl) ∙ ap (refused 12) (sym most))
 
-                module _ (ends-room : upper ≤ length ends) (s : Spare) (t : spare_found s ≡ Outcome.spare_word p words zero (chosen_numbers p)) where
+                module _ (ends-room : upper ≤ length ends) (s : P.Option ℕ) (t : told s ≡ Outcome.spare_word p words zero (chosen_numbers p)) where
                   opened : opening ≡ accepted (record { case = c; labels = x.labels; problem = p; third = given })
                   unfolding rooms ◌>>=◌
                   opened =
                       let b = room_there (Side.case_window p).upper (length ends) (subst (λ (x : ℕ). x ≤ length ends) most ends-room) in
-                      Order.ready L question site _ _ Outcome.without_every _ x read given handed.is_read (Order.untested c) p (grounds L c f.m table h.grounded o)
+                      Order.ready L question site _ _ Outcome.without_every _ x read given handed.is_read (Order.untested c) p (grounds L c f.m table h.grounded m o)
                       (Order.every_passes c alone) (rw (first_room, second_room, third_room, b) refl)
 
                   planned_then : its_plan ≡ (Outcome.satisfying c p picks given >>= λ G. accepted (record { problem = p; picks = G; layers = built_numbers p G }))
                   unfolding Side.layered_plan rooms ◌>>=◌
                   planned_then = rw opened refl
 
-                  pub builds_spare : (j : ℕ) → s ≡ Word j → Answers L question site picks state steps ends (Refused 10 j) state steps ends
-                  unfolding result_of spare_found ◌>>=◌
-                  builds_spare j e = plan_refused 10 j (planned_then ∙ rw (spare_refused c x.labels picks words given F handed j (sym t ∙ ap spare_found e)) refl) (Refused 10 j) refl
+                  pub builds_spare : (j : ℕ) → s ≡ Some j → Answers L question site picks state steps ends (Err (record { cause = Repeated; place = j })) state steps ends
+                  unfolding told ◌>>=◌
+                  builds_spare j e = plan_refused (record { cause = Repeated; place = j }) (planned_then ∙ rw (spare_refused c x.labels picks words given F handed j (sym t ∙ ap told e)) refl)
 
-                  module _ (e : s ≡ Clear) where
+                  module _ (e : s ≡ None) where
                     clear : Outcome.spare_word p words zero (chosen_numbers p) ≡ none
-                    unfolding spare_found
-                    clear = sym t ∙ ap spare_found e
+                    unfolding told
+                    clear = sym t ∙ ap told e
 
                     -- what building from the initial state on is handed
-                    prepared : L.actions ≤ 4194304 → Prepared c F table facts (take k words) f.m.atoms (length steps)
+                    prepared : L.actions ≤ 4194304 → Prepared c F table facts (take k words) m.atoms (length steps)
                     prepared few =
                         let (a, front) = handed.held (subst (λ (x : ℕ). x ≤ length words) q picks_room_lem) clear in
                         record {
@@ -182,19 +178,19 @@ module _ (L : CaseLimits) (question site : List ℕ) (picks : Outcome.ThirdInput
                           facts_in = facts_held question c f.o facts h.holds;
                           picked = front_picks p F (take k words) (ap (λ (x : ℕ). take x (take k words)) (sym q) ∙ take_all k (take k words) (front_short k k words (omega arith)) ∙ ap (λ (x : ℕ). take x words) q ∙ front);
                           atoms_are = its.atoms_are;
-                          few = omega (arith, actions_few L c f.m table h.grounded o, few);
-                          few_tuples = tuples_few L c f.m table h.grounded o;
+                          few = omega (arith, actions_few L c f.m table h.grounded m o, few);
+                          few_tuples = tuples_few L c f.m table h.grounded m o;
                           steps_room = subst (λ (x : ℕ). x ≤ length steps) its.bound_is steps_room;
                         }
 
                     pub builds_built : L.actions ≤ 4194304 → (r : Reply) (state' steps' ends' : List ℕ)
-                        → (Prepared c F table facts (take k words) f.m.atoms (length steps) → c.question.every ≡ none → actions p ≤ 4194304 → (Side.case_window p).upper < 1024 → (Side.case_window p).upper ≤ length ends
+                        → (Prepared c F table facts (take k words) m.atoms (length steps) → c.question.every ≡ none → actions p ≤ 4194304 → (Side.case_window p).upper < 1024 → (Side.case_window p).upper ≤ length ends
                         → GivesLayers c p F state steps ends r state' steps' ends')
                         → Answers L question site picks state steps ends r state' steps' ends'
                     unfolding layered
                     builds_built few r state' steps' ends' G =
                         from_plan (layered c p F) (planned_then ∙ rw (spare_clear c x.labels picks words given F handed clear) refl) r state' steps' ends'
-                        (G (prepared few) alone (omega (arith, actions_few L c f.m table h.grounded o, few)) (upper_few c h.accepts) (subst (λ (x : ℕ). x ≤ length ends) most ends-room))
+                        (G (prepared few) alone (omega (arith, actions_few L c f.m table h.grounded m o, few)) (upper_few c h.accepts) (subst (λ (x : ℕ). x ≤ length ends) most ends-room))
 
 -- what is promised of building from words: they have 64 bits each, and whatever case and picks they are of, this is built
 pub record FromWords (f : Front) (upper : ℕ) (facts table words state steps ends : List ℕ) (r : Reply) (state' steps' ends' : List ℕ) : Type 0 where
@@ -206,4 +202,4 @@ pub record FromWords (f : Front) (upper : ℕ) (facts table words state steps en
 -- and from a text, by the labels that were filed
 abbrev pub FromText : (question site : List ℕ) → Front → (labels facts table text state steps ends : List ℕ) → Reply → (state' steps' ends' : List ℕ) → Type 0
 FromText question site f labels facts table text state steps ends r state' steps' ends' =
-    (L : CaseLimits) → Filed L question site f labels facts table → f.fault ≡ 0 → L.actions ≤ 4194304 → Answers L question site (Outcome.as_text text) state steps ends r state' steps' ends'
+    (L : CaseLimits) → Filed L question site (Ok f) labels facts table → L.actions ≤ 4194304 → Answers L question site (Outcome.as_text text) state steps ends r state' steps' ends'

@@ -7,8 +7,7 @@ use Rattle.definitions.specs.Problem.Atoms.{Problem}
 use Rattle.definitions.specs.Reply.Layers.{LayeredPlan, layers_built_from}
 use Rattle.meaning.specs.Layered.{built_numbers}
 use Rattle.step_picks.specs.Handed.{decided}
-use Rattle.open_case.specs.declared.Reply.{Reply}
-use Rattle.open_case.specs.Replies.{result_of}
+use Rattle.open_case.specs.Replies.{Reply, result_of}
 
 -- 16, then 17, then the layers
 unfoldable pub layered : Case → Problem → List Tuple → Result LayeredPlan

@@ -1,10 +1,10 @@
 -- Layers from the plain steps: what building layers answers, by what building steps answered and what placing them gave.
 use Prim.Native.Nat.{ℕ, zero, ◌+◌, ◌/◌, ◌≤◌, ◌<◌, min}
-use Rattle.std.specs.Prelude.{true, not, ◌≡◌, length}
+use Rattle.std.specs.Prelude.{true, not, ◌≡◌, length, Ok, Err}
 use Rattle.std.proofs.Math.Path.{refl, ap, subst}
 use Rattle.std.proofs.Common.{sym, ◌∙◌, arith}
 use Rattle.std.proofs.Math.Option.{Option, none}
-use mathlib.Core.List.{List, [], ◌++◌}
+use mathlib.Core.List.{List, []}
 use Rattle.std.proofs.Math.Dec.{T}
 use Rattle.definitions.specs.Lists.{is_some}
 use Rattle.definitions.specs.Refusal.{Result, refused, accepted, ◌>>=◌}
@@ -28,12 +28,10 @@ use Rattle.meaning.specs.Count.{bound_below}
 use Rattle.meaning.specs.Layers.{NoEvery}
 use Rattle.meaning.specs.Layered.{built_numbers, layers_run}
 use Rattle.step_picks.specs.Handed.{decided}
-use Rattle.step_build.specs.Answers.{planned, answered, Gives}
+use Rattle.step_build.specs.Answers.{planned, Gives}
 use Rattle.step_build.specs.Starts.{Prepared}
-use Rattle.step_build.specs.declared.PlanAnswer.{PlanAnswer}
-use Rattle.step_build.specs.declared.PlanAnswer.TheVariants.{Steps, OtherKind, RuleFalse}
-use Rattle.open_case.specs.declared.Reply.{Reply}
-use Rattle.open_case.specs.declared.Reply.TheVariants.{Accepted as Told, Refused}
+use Rattle.refusal.specs.declared.Refusal.{Refusal}
+use Rattle.refusal.specs.Numbers.{number_of}
 use Rattle.open_case.specs.Replies.{result_of}
 use Rattle.call_build_layers.specs.Layers.{layered, GivesLayers}
 use Rattle.step_place.specs.Placeable.{Placeable}
@@ -46,12 +44,11 @@ unfolding built_from layers_built_from ◌>>=◌
 refused_by p (refused j at) state steps ends a state' steps' k place e h = ap (λ (b : StepsBuilt). record { answer = b.answer; state = b.state; steps = b.steps; ends = ends }) h
 refused_by p (accepted G) state steps ends a state' steps' k place e h = absurd (refused_accepted (sym e ∙ sym (ap (λ (b : StepsBuilt). b.answer) h)))
 
-gives_refused : (c : Case) (p : Problem) (F : List Tuple) (state steps ends : List ℕ) (a : PlanAnswer) (state' steps' : List ℕ) → Gives c p F state steps a state' steps'
-    → (k place : ℕ) → answered a ≡ refused k place → (r : Reply) → result_of r ≡ refused k place → GivesLayers c p F state steps ends r state' steps' ends
+pub gives_refused : (c : Case) (F : List Tuple) (state steps ends : List ℕ) (e : Refusal) (state' steps' : List ℕ) → Gives c (problem_of c) F state steps (Err e) state' steps'
+    → GivesLayers c (problem_of c) F state steps ends (Err e) state' steps' ends
 unfolding planned layered
-gives_refused c p F state steps ends a state' steps' g k place e r q =
-    refused_by p (decided c p F) state steps ends (answered a) state' steps' k place e (g [])
-    ∙ ap (λ (x : Result ℕ). record { answer = x; state = state'; steps = steps'; ends = ends }) (e ∙ sym q)
+gives_refused c F state steps ends e state' steps' g =
+    refused_by (problem_of c) (decided c (problem_of c) F) state steps ends (result_of (Err e)) state' steps' (number_of e.cause) e.place refl (g [])
 
 -- ---- picks of which the rule is true
 built_by : (x : Result (List Tuple)) (p : Problem) (state steps : List ℕ) (k : ℕ) (state' steps' : List ℕ)
@@ -76,8 +73,8 @@ module _ (c : Case) (A : Accepted c) (F : List Tuple) (picks : are_picks c F ≡
 
   placed_by : are_of_kinds c F ≡ true → rule_is_true c F ≡ true → (state steps ends : List ℕ) (n : ℕ) (state' steps' ends' : List ℕ)
       → state' ≡ written (state_words p (run p (built_steps p F)).state) state → n ≡ length (built_numbers p F) → steps' ≡ written (flat (built_numbers p F)) steps
-      → ends' ≡ written (ends_from zero (built_numbers p F)) ends → decided c p F ≡ accepted F → GivesLayers c p F state steps ends (Told n) state' steps' ends'
-  unfolding layered layers_built_from result_of ◌>>=◌ problem_of problem_with
+      → ends' ≡ written (ends_from zero (built_numbers p F)) ends → decided c p F ≡ accepted F → GivesLayers c p F state steps ends (Ok n) state' steps' ends'
+  unfolding layered layers_built_from ◌>>=◌ problem_of problem_with
   placed_by kinds t state steps ends n state' steps' ends' a b d e g =
       let K = tested_kinds c A F (picks_inside c A F (T_of picks)) (T_of kinds) in
       let none_there : NoEvery p = alone_is c.question.every plain in
@@ -93,15 +90,14 @@ PlacedAs c F old ends n steps' ends' =
 
 pub gives_placed : (c : Case) (F : List Tuple) (table facts words : List ℕ) (atoms : ℕ) (state steps ends : List ℕ) → Prepared c F table facts words atoms (length steps) → c.question.every ≡ none
     → actions (problem_of c) ≤ 4194304 → (case_window (problem_of c)).upper < 1024
-    → (atoms + 63) / 64 ≤ length state → (b : PlanAnswer) (state' steps' : List ℕ) → Gives c (problem_of c) F state steps b state' steps' → (k : ℕ) → b ≡ Steps k
+    → (atoms + 63) / 64 ≤ length state → (k : ℕ) (state' steps' : List ℕ) → Gives c (problem_of c) F state steps (Ok k) state' steps'
     → (n : ℕ) (steps'' ends' : List ℕ)
     → (Placeable c F table atoms → state' ≡ written (state_words (problem_of c) (run (problem_of c) (built_steps (problem_of c) F)).state) state → state_length (problem_of c) ≤ length state
     → steps' ≡ written (built_steps (problem_of c) F) steps → length (built_steps (problem_of c) F) ≤ length steps → min k atoms ≡ length (built_steps (problem_of c) F)
     → PlacedAs c F steps ends n steps'' ends')
-    → GivesLayers c (problem_of c) F state steps ends (Told n) state' steps'' ends'
-unfolding planned answered decided state_length words_for problem_of problem_with
-gives_placed c F table facts words atoms state steps ends P plain few levels room b state' steps' given k told n steps'' ends' placed =
-    let g : Gives c (problem_of c) F state steps (Steps k) state' steps' = subst (λ (x : PlanAnswer). Gives c (problem_of c) F state steps x state' steps') told given in
+    → GivesLayers c (problem_of c) F state steps ends (Ok n) state' steps'' ends'
+unfolding planned decided state_length words_for problem_of problem_with
+gives_placed c F table facts words atoms state steps ends P plain few levels room k state' steps' g n steps'' ends' placed =
     let (G, e, count, s, t) = built_by (decided c (problem_of c) F) (problem_of c) state steps k state' steps' (g []) in
     let (took, kinds, holds) = satisfying_parts c (problem_of c) (as_text []) F G e in
     let q : G ≡ F = sym (taken_as_text (problem_of c) F G took) in
@@ -125,12 +121,3 @@ gives_placed c F table facts words atoms state steps ends P plain few levels roo
     let z = bound_below (problem_of c) (good c P.case) (alone_is c.question.every plain) in
     let (a, e₂, d) = placed M s' (subst (λ (m : ℕ). (m + 63) / 64 ≤ length state) P.atoms_are room) t' (omega (arith, P.steps_room)) (omega (arith, P.atoms_are)) in
     placed_by c P.case F P.picks plain kinds' holds' state steps ends n state' steps'' ends' s' a e₂ d (e ∙ ap accepted q)
-
-module _ (c : Case) (F : List Tuple) (state steps ends : List ℕ) (a : PlanAnswer) (state' steps' : List ℕ) (g : Gives c (problem_of c) F state steps a state' steps') where
-  pub gives_other : (i : ℕ) → a ≡ OtherKind i → GivesLayers c (problem_of c) F state steps ends (Refused 16 i) state' steps' ends
-  unfolding answered result_of
-  gives_other i e = gives_refused c (problem_of c) F state steps ends a state' steps' g 16 i (ap answered e) (Refused 16 i) refl
-
-  pub gives_false : a ≡ RuleFalse → GivesLayers c (problem_of c) F state steps ends (Refused 17 0) state' steps' ends
-  unfolding answered result_of
-  gives_false e = gives_refused c (problem_of c) F state steps ends a state' steps' g 17 0 (ap answered e) (Refused 17 0) refl

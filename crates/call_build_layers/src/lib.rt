@@ -1,7 +1,7 @@
 // Layers of steps built from picks, which are handed over as a text or lent as words.
 #![tactic(auto)]
 
-ghost use Rattle.std.specs.Prelude.{◌≡◌, false, List, ℕ, ◌+◌, ◌/◌, ◌^◌, ◌≤◌, ◌<◌, length};
+ghost use Rattle.std.specs.Prelude.{◌≡◌, false, List, ℕ, ◌+◌, ◌/◌, ◌^◌, ◌≤◌, ◌<◌, length, Ok};
 ghost use Rattle.std.proofs.Math.Option.{none};
 ghost use Rattle.definitions.specs.Limits.{usual};
 ghost use Rattle.definitions.specs.Sheet.Relations.{Tuple};
@@ -16,6 +16,7 @@ ghost use Rattle.read_tuples.specs.Labels.{LabelsAre};
 ghost use Rattle.read_sheets.specs.Reading.{FactsRoom, PicksRoom};
 ghost use Rattle.problem_action.specs.Decoded.{Grounded};
 ghost use Rattle.problem_of_case.specs.Grounds.{Read};
+ghost use Rattle.problem_of_case.specs.declared.Sized.{Sized};
 ghost use Rattle.step_start.specs.Rows.{atoms_in};
 ghost use Rattle.step_build.specs.Starts.{Prepared};
 ghost use Rattle.open_case.specs.Fronts.{ReadyFront};
@@ -25,7 +26,8 @@ ghost use Rattle.call_build_layers.specs.Builds.{Answers, FromWords, FromText};
 ghost use Rattle.call_build_layers.specs.Calls.{IsUpper};
 
 use open_case::{Front, Reply};
-use read_sheets::{Answer, Opened};
+use read_sheets::Opened;
+use refusal::Cause;
 
 // The most layers that a case's built steps can have.
 fn upper_number(question: &[u8], o: Opened) -> usize
@@ -57,15 +59,8 @@ fn place_built(
         → c.question.every ≡ none → actions (problem_of c) ≤ 4194304 → (case_window (problem_of c)).upper < 1024 → (case_window (problem_of c)).upper ≤ length ends.old
         → GivesLayers c (problem_of c) F state.old steps.old ends.old result state.new steps.new ends.new }
 {
-    let a = step_build::start_and_build(state, steps, table, facts, atoms, picks);
-    match a {
-        step_build::PlanAnswer::Steps(count) => {
-            let many = bits::least(count, atoms);
-            Reply::Accepted(step_place::place(state, table, steps, atoms, many, ends))
-        }
-        step_build::PlanAnswer::OtherKind(i) => Reply::Refused(16, i),
-        step_build::PlanAnswer::RuleFalse => Reply::Refused(17, 0),
-    }
+    let count = step_build::start_and_build(state, steps, table, facts, atoms, picks)?;
+    Ok(step_place::place(state, table, steps, atoms, count.min(atoms), ends))
 }
 
 // Layers of a case that was opened, from picks that stand in words: 11, 23 of any case with an `every` line, 12 (picks, state, steps, ends),
@@ -81,39 +76,33 @@ fn build_picks(
     ends: &mut [u32],
 ) -> Reply
     requires by_index { (q : List ℕ) × ReadyFront q f facts.now table.now }
-    requires atoms_bound { f.m.refusal ≡ 0 → f.m.atoms ≤ 2 ^ 20 }
+    requires atoms_bound { (m : Sized) → f.m ≡ Ok m → m.atoms ≤ 2 ^ 20 }
     ensures { FromWords f upper facts.now table.now picks.now state.old steps.old ends.old result
         state.new steps.new ends.new }
 {
-    let m = f.m;
-    if m.refusal != 0 {
-        return Reply::Refused(m.refusal, 0);
-    }
+    let m = f.m?;
     if f.o.sig.every != 0 {
-        return Reply::Refused(23, 0);
+        return Err(Cause::HasEvery.at(0));
     }
     let held = step_picks::picks_length(table);
     if picks.len() < held {
-        return Reply::Refused(12, held);
+        return Err(Cause::ShortBuffer.at(held));
     }
     let words = (m.atoms + 63) / 64;
     let bound = m.bound;
     if state.len() < words {
-        return Reply::Refused(12, words);
+        return Err(Cause::ShortBuffer.at(words));
     }
     if steps.len() < bound {
-        return Reply::Refused(12, bound);
+        return Err(Cause::ShortBuffer.at(bound));
     }
     if ends.len() < upper {
-        return Reply::Refused(12, upper);
+        return Err(Cause::ShortBuffer.at(upper));
     }
-    let s = step_picks::spare_word(table, picks);
-    match s {
-        step_picks::Spare::Word(j) => Reply::Refused(10, j),
-        step_picks::Spare::Clear => {
-            place_built(state, steps, ends, table, facts, m.atoms, &picks[..held])
-        }
+    if let Some(j) = step_picks::spare_word(table, picks) {
+        return Err(Cause::Repeated.at(j));
     }
+    place_built(state, steps, ends, table, facts, m.atoms, &picks[..held])
 }
 
 // Layers of a case that was opened, from picks as a text: they are read into the lent words, which are enough and come in cleared.
@@ -130,21 +119,16 @@ fn build_listed(
     steps: &mut [u32],
     ends: &mut [u32],
 ) -> Reply
-    requires ready_front { ReadyFront question.now f facts.now table.now × (f.m.refusal ≡ 0 → f.m.atoms ≤ 2 ^ 20) × ((ls : List Label) × LabelsAre site.now labels.now f.o.n ls) }
+    requires ready_front { ReadyFront question.now f facts.now table.now × ((m : Sized) → f.m ≡ Ok m → m.atoms ≤ 2 ^ 20) × ((ls : List Label) × LabelsAre site.now labels.now f.o.n ls) }
     requires picks_room { PicksRoom f.o.sig f.o.n (length words.old) × (bit words.old ≡ λ i. false) }
     ensures { FromText question.now site.now f labels.now facts.now table.now picks.now
         state.old steps.old ends.old result state.new steps.new ends.new }
 {
     let o = f.o;
     let sig = o.sig;
-    let a = read_sheets::picks(question, sig, picks, o.n, site, labels, words);
-    match a {
-        Answer::Refused(k, place) => Reply::Refused(k, place),
-        Answer::Done(_) => {
-            let upper = upper_number(question, o);
-            build_picks(f, upper, facts, table, words, state, steps, ends)
-        }
-    }
+    read_sheets::picks(question, sig, picks, o.n, site, labels, words)?;
+    let upper = upper_number(question, o);
+    build_picks(f, upper, facts, table, words, state, steps, ends)
 }
 
 // Layers from picks as a text; the words for the facts are lent.
@@ -163,11 +147,9 @@ fn build_text_in(
 {
     let mut labels = [0usize; read_sheets::LABELS];
     let mut table = [0usize; problem_table::TABLE];
-    let f = open_case::open_usual(question, site, &mut labels, facts, &mut table);
-    if f.fault != 0 {
-        return Reply::Refused(f.fault, f.place);
-    }
+    let f = open_case::open_usual(question, site, &mut labels, facts, &mut table)?;
     let o = f.o;
+    // the room is made here: open_room lends beside two slices at the most, and these are three
     if o.n <= open_case::SMALL_SIZE {
         let mut few = [0u64; open_case::FEW_PICKS];
         return build_listed(
@@ -194,6 +176,7 @@ pub fn build_layers_text(
     ensures steps { steps.new ≡ (build_layers usual question.now site.now (as_text picks.now) state.old steps.old ends.old).steps }
     ensures ends { ends.new ≡ (build_layers usual question.now site.now (as_text picks.now) state.old steps.old ends.old).ends }
 {
+    // the room is made here: open_room lends beside two slices at the most, and these are three
     if open_case::is_small(site) {
         let mut few = [0u64; open_case::FEW];
         return build_text_in(question, site, picks, state, steps, ends, &mut few);
@@ -217,10 +200,7 @@ fn build_lent_in(
         state.new steps.new ends.new }
 {
     let mut table = [0usize; problem_table::TABLE];
-    let f = open_case::open_case(question, site, facts, &mut table);
-    if f.fault != 0 {
-        return Reply::Refused(f.fault, f.place);
-    }
+    let f = open_case::open_case(question, site, facts, &mut table)?;
     let upper = upper_number(question, f.o);
     build_picks(f, upper, facts, &table, picks, state, steps, ends)
 }
@@ -239,6 +219,7 @@ pub fn build_layers_lent(
     ensures steps { steps.new ≡ (build_layers usual question.now site.now (as_numbers picks.now) state.old steps.old ends.old).steps }
     ensures ends { ends.new ≡ (build_layers usual question.now site.now (as_numbers picks.now) state.old steps.old ends.old).ends }
 {
+    // the room is made here: open_room lends beside two slices at the most, and these are three
     if open_case::is_small(site) {
         let mut few = [0u64; open_case::FEW];
         return build_lent_in(question, site, picks, state, steps, ends, &mut few);

@@ -1,5 +1,5 @@
 -- What the call that checks layered plans answers and leaves, one law for each place where it ends.
-use Rattle.std.specs.Prelude.{ℕ, ◌+◌, ◌-◌, ◌/◌, ◌≤◌, ◌<◌, ◌≡◌, eqb, take, if◌then◌else◌}
+use Rattle.std.specs.Prelude.{ℕ, ◌+◌, ◌-◌, ◌/◌, ◌≤◌, ◌<◌, ◌≡◌, eqb, take, if◌then◌else◌, Ok, Err}
 use Rattle.std.proofs.Math.Path.{refl, sym, ap}
 use Rattle.std.proofs.Common.{subst, ◌∙◌, length-take-le}
 use Rattle.std.proofs.Math.Option.{none}
@@ -22,11 +22,13 @@ use Rattle.step_run.specs.declared.End.{End}
 use Rattle.step_run.specs.Ended.{ended}
 use Rattle.step_layers.specs.Checks.{RunsLayers}
 use Rattle.open_case.specs.declared.Front.{Front}
-use Rattle.open_case.specs.declared.Reply.{Reply}
-use Rattle.open_case.specs.declared.Reply.TheVariants.{Refused}
-use Rattle.open_case.specs.Fronts.{Fronted, Held, front_refused, front_held}
+use Rattle.refusal.specs.declared.Refusal.{Refusal}
+use Rattle.refusal.specs.declared.Cause.TheVariants.{ShortBuffer, HasEvery}
+use Rattle.refusal.specs.Numbers.{number_of}
+use Rattle.problem_of_case.specs.declared.Sized.{Sized}
+use Rattle.open_case.specs.Fronts.{Fronted}
 use Rattle.open_case.specs.Known.{facts_held, every_none, every_some, case_over, grounds, tabled, words_are, room_short, room_there}
-use Rattle.open_case.specs.Replies.{result_of, lent_many, lent_few}
+use Rattle.open_case.specs.Replies.{Reply, result_of, lent_many, lent_few}
 
 -- ---- the third input: the number of steps, then the ends
 module _ (steps ends : List ℕ) where
@@ -52,7 +54,7 @@ abbrev pub Checked : CaseLimits → (question site steps ends old : List ℕ) �
 Checked L question site steps ends old r new =
     (result_of r ≡ (Layers.check_layers L question site steps ends old).answer) × (new ≡ (Layers.check_layers L question site steps ends old).state)
 
-module _ (L : CaseLimits) (question site steps ends old : List ℕ) (f : Front) (facts table : List ℕ) (opens : Fronted L question site f facts table) where
+module _ (L : CaseLimits) (question site steps ends old : List ℕ) where
   abbrev third : Outcome.CaseRead → Result (List (List ℕ))
   third x = Layers.take_layers steps ends
 
@@ -62,54 +64,51 @@ module _ (L : CaseLimits) (question site steps ends old : List ℕ) (f : Front) 
   abbrev Answers : Reply → List ℕ → Type 0
   Answers r new = Checked L question site steps ends old r new
 
-  refused_with : (k place : ℕ) → Outcome.asked L question site third Outcome.nothing Outcome.without_every rooms ≡ refused k place
-      → Answers (Refused k place) old
-  unfolding Layers.check_layers Layers.layers_checked_from result_of
-  refused_with k place e = (rw e refl, rw e refl)
+  refused_with : (e : Refusal) → Outcome.asked L question site third Outcome.nothing Outcome.without_every rooms ≡ refused (number_of e.cause) e.place
+      → Answers (Err e) old
+  unfolding Layers.check_layers Layers.layers_checked_from
+  refused_with e h = (rw h refl, rw h refl)
 
-  pub call_case : (f.fault ≡ 0 → ⊥) → Answers (Refused f.fault f.place) old
-  call_case z = refused_with _ _ (Asked.case_refused L question site third _ _ rooms _ _ (front_refused L question site f facts table opens z))
+  pub call_case : (e : Refusal) → Outcome.read_case L question site ≡ refused (number_of e.cause) e.place → Answers (Err e) old
+  call_case e h = refused_with e (Asked.case_refused L question site third _ _ rooms _ _ h)
 
-  module _ (z : f.fault ≡ 0) where
-    -- the case that was read
-    abbrev its : (c : Case) × (Outcome.read_case L question site ≡ accepted c) × Held L question c f facts table
-    its = front_held L question site f facts table opens z
-
-    pub call_layers : (k place : ℕ) → Layers.take_layers steps ends ≡ refused k place → Answers (Refused k place) old
-    call_layers k place t = refused_with k place (Alone.third_refused L question site third _ _ rooms its.0 its.1 k place (λ _. t))
+  -- the case that was read
+  module _ (f : Front) (facts table : List ℕ) (its : Fronted L question site (Ok f) facts table) where
+    pub call_layers : (e : Refusal) → Layers.take_layers steps ends ≡ refused (number_of e.cause) e.place → Answers (Err e) old
+    call_layers e t = refused_with e (Alone.third_refused L question site third _ _ rooms its.0 its.1 (number_of e.cause) e.place (λ _. t))
 
     module _ (t : Layers.take_layers steps ends ≡ accepted (Layers.layers_from 0 steps ends)) where
-      pub call_over : (f.m.refusal ≡ 0 → ⊥) → Answers (Refused f.m.refusal 0) old
-      call_over o =
-          let (c, e, h) = its in
-          refused_with _ _ (Alone.limits_refused L question site third _ _ rooms c e _ (λ _. t) (Asked.untested c) _ _ (case_over L c _ _ h.grounded o))
+      pub call_over : (e : Refusal) → f.m ≡ Err e → Answers (Err e) old
+      call_over e o =
+          let (c, i, h) = its in
+          refused_with e (Alone.limits_refused L question site third _ _ rooms c i _ (λ _. t) (Asked.untested c) _ _ (case_over L c _ _ h.grounded e o))
 
-      module _ (o : f.m.refusal ≡ 0) where
-        pub call_every : (f.o.sig.every ≡ 0 → ⊥) → Answers (Refused 23 0) old
+      module _ (m : Sized) (o : f.m ≡ Ok m) where
+        pub call_every : (f.o.sig.every ≡ 0 → ⊥) → Answers (Err (record { cause = HasEvery; place = 0 })) old
         call_every n =
             let (c, e, h) = its in
             let (labels, g) = Asked.case_filed L question site c e in
             let (k, q) = every_some question c _ _ h.holds n in
-            refused_with 23 0 (Asked.late_refused L question site third _ Outcome.without_every rooms _ g _ t (Asked.untested c) (problem_of c)
-            (grounds L c _ _ h.grounded o) 23 0 (Asked.every_fails c k q))
+            refused_with (record { cause = HasEvery; place = 0 }) (Asked.late_refused L question site third _ Outcome.without_every rooms _ g _ t (Asked.untested c) (problem_of c)
+            (grounds L c _ _ h.grounded _ o) 23 0 (Asked.every_fails c k q))
 
         module _ (n : f.o.sig.every ≡ 0) where
           abbrev words : ℕ
-          words = (f.m.atoms + 63) / 64
+          words = (m.atoms + 63) / 64
 
           words_of : words ≡ Outcome.state_length (problem_of its.0)
-          words_of = words_are L its.0 _ _ its.2.grounded o
+          words_of = words_are L its.0 _ _ its.2.grounded _ o
 
           plain : its.0.question.every ≡ none
           plain = every_none question its.0 _ _ its.2.holds n
 
-          pub call_short : length old < words → Answers (Refused 12 words) old
+          pub call_short : length old < words → Answers (Err (record { cause = ShortBuffer; place = words })) old
           call_short l =
               let (c, e, h) = its in
               let b : rooms (problem_of c) ≡ refused 12 words =
               ap (λ (k : ℕ). Outcome.room_for k (length old)) (sym words_of) ∙ room_short words (length old) l in
-              refused_with 12 words (Alone.room_refused L question site third _ _ rooms c e _ (λ _. t) (Asked.untested c) (problem_of c)
-              (grounds L c _ _ h.grounded o) (Asked.every_passes c plain) 12 words b)
+              refused_with (record { cause = ShortBuffer; place = words }) (Alone.room_refused L question site third _ _ rooms c e _ (λ _. t) (Asked.untested c) (problem_of c)
+              (grounds L c _ _ h.grounded _ o) (Asked.every_passes c plain) 12 words b)
 
           pub call_ran : words ≤ length old → (e : End) (part new : List ℕ) (r : Reply) → RunsLayers table facts steps ends (take words old) e part
               → new ≡ part ++ drop words old → result_of r ≡ ended e → Answers r new
@@ -120,8 +119,8 @@ module _ (L : CaseLimits) (question site steps ends old : List ℕ) (f : Front) 
               let b = room_there (Outcome.state_length p) (length old) (subst (λ (k : ℕ). k ≤ length old) words_of l) in
               let g =
               Alone.ready L question site third Outcome.nothing Outcome.without_every rooms c a _ (λ _. t) (Asked.untested c) p
-              (grounds L c _ _ h.grounded o) (Asked.every_passes c plain) b in
-              let k = tabled L c _ _ h.grounded o in
+              (grounds L c _ _ h.grounded _ o) (Asked.every_passes c plain) b in
+              let k = tabled L c _ _ h.grounded _ o in
               let ran =
               runs p (good c h.accepts) (no_rounds c plain) k.is k.ends (facts_held question c _ facts h.holds)
               (length-take-le words old l ∙ words_of) in

@@ -14,6 +14,7 @@ ghost use Rattle.open_case.specs.Replies.{result_of};
 ghost use Rattle.call_check_layers.specs.Replies.{Checked};
 
 use open_case::{Front, Reply};
+use refusal::Cause;
 
 // Layers of a case that was read and grounded: 11, 23 of any case with an `every` line, 12, then the layers one by one.
 fn check_taken(
@@ -26,20 +27,17 @@ fn check_taken(
 ) -> Reply
     requires by_index { (q : List ℕ) × ReadyFront q f facts.now table.now }
     requires are_ends { AreEnds (length steps.now) 0 ends.now }
-    ensures { (L : CaseLimits) (question site : List ℕ) → Fronted L question site f facts.now table.now → f.fault ≡ 0
+    ensures { (L : CaseLimits) (question site : List ℕ) → Fronted L question site (Ok f) facts.now table.now
         → take_layers steps.now ends.now ≡ accepted (layers_from 0 steps.now ends.now)
         → Checked L question site steps.now ends.now state.old result state.new }
 {
-    let m = f.m;
-    if m.refusal != 0 {
-        return Reply::Refused(m.refusal, 0);
-    }
+    let m = f.m?;
     if f.o.sig.every != 0 {
-        return Reply::Refused(23, 0);
+        return Err(Cause::HasEvery.at(0));
     }
     let words = (m.atoms + 63) / 64;
     if state.len() < words {
-        return Reply::Refused(12, words);
+        return Err(Cause::ShortBuffer.at(words));
     }
     let e = step_layers::start_and_run_layers(table, facts, steps, ends, &mut state[..words]);
     open_case::reply_of(e)
@@ -59,16 +57,13 @@ fn check_layers_in(
         state.new }
 {
     let mut table = [0usize; problem_table::TABLE];
-    let f = open_case::open_case(question, site, facts, &mut table);
-    if f.fault != 0 {
-        return Reply::Refused(f.fault, f.place);
-    }
+    let f = open_case::open_case(question, site, facts, &mut table)?;
     if open_case::STEPS < steps.len() {
-        return Reply::Refused(1, 0);
+        return Err(Cause::TooLong.at(0));
     }
     let wrong = step_layers::ends_fault(ends, steps.len());
     if wrong != 0 {
-        return Reply::Refused(3, wrong - 1);
+        return Err(Cause::OutOfOrder.at(wrong - 1));
     }
     check_taken(f, facts, &table, steps, ends, state)
 }
@@ -86,10 +81,7 @@ pub fn check_layers(
     ensures left { state.new
         ≡ (check_layers usual question.now site.now steps.now ends.now state.old).state }
 {
-    if open_case::is_small(site) {
-        let mut few = [0u64; open_case::FEW];
-        return check_layers_in(question, site, steps, ends, state, &mut few);
-    }
-    let mut facts = [0u64; open_case::FACTS];
-    check_layers_in(question, site, steps, ends, state, &mut facts)
+    open_room::with_facts_into(site, state, |facts: &mut [u64], state: &mut [u64]| {
+        check_layers_in(question, site, steps, ends, state, facts)
+    })
 }

@@ -1,6 +1,6 @@
 -- A third sheet of steps: the order of refusals, the run, and the report. Assumes nothing.
-use Rattle.std.specs.Prelude.{ℕ, ◌+◌, ◌/◌, ◌≤◌, ◌≡◌, List, ◌++◌}
-use Rattle.std.proofs.Math.Path.{refl, sym, ap, subst₂}
+use Rattle.std.specs.Prelude.{ℕ, ◌+◌, ◌/◌, ◌≤◌, ◌≡◌, List, ◌++◌, Ok, Err}
+use Rattle.std.proofs.Math.Path.{refl, sym, ap}
 use Rattle.std.proofs.Common.{◌∙◌, arith}
 use Rattle.std.proofs.Math.ListN.{length, take}
 use Rattle.std.proofs.Math.Seq.{take-append_seam}
@@ -15,7 +15,9 @@ use Rattle.laws.specs.Words.{state_length_lem}
 use Rattle.meaning.specs.Grounded.{good}
 use Rattle.meaning.specs.Few as Few
 use Rattle.step_run.specs.declared.End.{End}
-use Rattle.step_run.specs.declared.End.TheVariants.{Done, NoAction, NotNow, NoGoal}
+use Rattle.refusal.specs.declared.Refusal.{Refusal}
+use Rattle.refusal.specs.Numbers.{number_of}
+use Rattle.problem_of_case.specs.declared.Sized.{Sized}
 use Rattle.step_run.specs.Ended.{ended}
 use Rattle.step_run.specs.Checks.{Ran, Runs}
 use Rattle.open_case.specs.declared.Front.{Front}
@@ -25,7 +27,7 @@ use Rattle.step_picks.specs.Copies.{picks_in, Copied}
 use Rattle.step_picks.specs.CopyLaws.{picks_in_lem, copied_done}
 use Rattle.step_picks.specs.Picked.{text_fits}
 use Rattle.bits.specs.Table.{bit}
-use Rattle.call_desk.specs.Replied.{Replies, answer_as, text_as, Reportable, report_of}
+use Rattle.call_desk.specs.Replied.{Replies, text_as, Reportable, report_of}
 use Rattle.call_desk.specs.Known.{own, Known, picks_roomy, front_agrees, report_as, reportable, state_fits}
 
 -- a step has a line of seven bytes at least, so there are few of them
@@ -83,58 +85,44 @@ module _ (q site : List ℕ) (f : Front) (labels facts w : List ℕ) (K : Known 
   text_fault text k place t = steps_refused q site text K.filed K.is_read k place t
 
   -- the picks fit the words that they are copied to
-  pub picks_fit : f.m.refusal ≡ 0 → picks_in w ≤ 256
-  picks_fit v =
-      let t = tabled own K.filed.case f.m w K.held.grounded v in
+  pub picks_fit : (m : Sized) → f.m ≡ Ok m → picks_in w ≤ 256
+  picks_fit m v =
+      let t = tabled own K.filed.case f.m w K.held.grounded m v in
       omega (arith, picks_in_lem (problem_of K.filed.case) w t.is, text_fits q K.filed.case K.held.accepts f.o (bit facts) K.held.holds 256 (picks_roomy q site f labels facts w K 256 (omega arith)))
 
-  pub reply_over : (text ks : List ℕ) → take_steps (as_text text) ≡ accepted ks → (old new : List ℕ) (r : ℕ) → (f.m.refusal ≡ 0 → ⊥) → Replies (printed (refused f.m.refusal 0)) old new r → Replies (printed (checked_plan q site text)) old new r
-  reply_over text ks t old new r v h = answer_as _ _ old new r (checked_over q site text K.filed K.is_read ks t _ _ (case_over own K.filed.case f.m w K.held.grounded v)) h
+  pub reply_over : (text ks : List ℕ) → take_steps (as_text text) ≡ accepted ks → (e : Refusal) → f.m ≡ Err e → checked_plan q site text ≡ refused (number_of e.cause) e.place
+  reply_over text ks t e o = checked_over q site text K.filed K.is_read ks t _ _ (case_over own K.filed.case f.m w K.held.grounded e o)
 
-  module _ (ks : List ℕ) (v : f.m.refusal ≡ 0) (part left : List ℕ) (e : End) (l : (f.m.atoms + 63) / 64 ≡ length part) (runs : Runs w facts ks part e left) where
+  module _ (ks : List ℕ) (m : Sized) (v : f.m ≡ Ok m) (part left : List ℕ) (e : End) (l : (m.atoms + 63) / 64 ≡ length part) (runs : Runs w facts ks part e left) where
     abbrev p : Problem
     p = problem_of K.filed.case
 
     its_run : Ran p ks e left
-    its_run = ran_of own K.filed.case f.m w K.held.grounded v q f.o facts ks part left e K.held.holds l runs
+    its_run = ran_of own K.filed.case f.m w K.held.grounded m v q f.o facts ks part left e K.held.holds l runs
 
     its_problem : ground own K.filed.case ≡ accepted p
-    its_problem = grounds own K.filed.case f.m w K.held.grounded v
+    its_problem = grounds own K.filed.case f.m w K.held.grounded m v
 
     -- once all steps were taken, the picks copied are those that they set; the state is the front of a longer table
-    module _ (i : ℕ) (n : e ≡ Done i) (rest fresh words : List ℕ) (copy : Copied w (take ((f.m.atoms + 63) / 64) (left ++ rest)) fresh words) where
+    module _ (i : ℕ) (n : ended e ≡ accepted i) (rest fresh words : List ℕ) (copy : Copied w (take ((m.atoms + 63) / 64) (left ++ rest)) fresh words) where
       copied : Agrees p (picks_of p ks) q f.o.sig f.o.n words
-      unfolding ended written
+      unfolding written
       copied =
           let ran = its_run in
-          let k : (f.m.atoms + 63) / 64 ≡ length left = words_are own K.filed.case f.m w K.held.grounded v ∙ sym (ap length ran.state ∙ state_length_lem p (run p ks).state) in
-          let front : take ((f.m.atoms + 63) / 64) (left ++ rest) ≡ left = ap (λ (j : ℕ). take j (left ++ rest)) k ∙ take-append_seam left rest in
-          let done = subst₂ (Ran p ks) n (sym front) ran in
-          let is = (tabled own K.filed.case f.m w K.held.grounded v).is in
-          front_agrees q site f labels facts w K (picks_of p ks) words _ (copied_done w _ fresh words ks i p copy is (good K.filed.case K.held.accepts) done.answer done.state)
+          let k : (m.atoms + 63) / 64 ≡ length left = words_are own K.filed.case f.m w K.held.grounded m v ∙ sym (ap length ran.state ∙ state_length_lem p (run p ks).state) in
+          let front : take ((m.atoms + 63) / 64) (left ++ rest) ≡ left = ap (λ (j : ℕ). take j (left ++ rest)) k ∙ take-append_seam left rest in
+          let is = (tabled own K.filed.case f.m w K.held.grounded m v).is in
+          front_agrees q site f labels facts w K (picks_of p ks) words _ (copied_done w _ fresh words ks i p copy is (good K.filed.case K.held.accepts) (sym n ∙ ran.answer) (front ∙ ran.state))
 
-      pub done_reportable : length ks ≤ 2340 → 256 ≤ length words → Reportable q site f labels words ks
+      pub done_reportable : length ks ≤ 2340 → 256 ≤ length words → Reportable q site f.o labels words ks
       done_reportable few room = reportable q site f labels facts w K (picks_of p ks) words ks copied (omega (arith, Few.set_few p ks)) room (omega arith)
 
-    module _ (text : List ℕ) (t : take_steps (as_text text) ≡ accepted ks) (old new : List ℕ) (r : ℕ) where
-      refused_as : (k i : ℕ) → ended e ≡ refused k i → Replies (printed (refused k i)) old new r → Replies (printed (checked_plan q site text)) old new r
-      refused_as k i n h = answer_as _ _ old new r (checked_ended q site text K.filed K.is_read ks t p its_problem (state_fits q site f labels facts w K v) k i (sym its_run.answer ∙ n)) h
+    module _ (text : List ℕ) (t : take_steps (as_text text) ≡ accepted ks) where
+      pub reply_ended : (x : Refusal) → ended e ≡ refused (number_of x.cause) x.place → checked_plan q site text ≡ refused (number_of x.cause) x.place
+      reply_ended x n = checked_ended q site text K.filed K.is_read ks t p its_problem (state_fits q site f labels facts w K m v) _ _ (sym its_run.answer ∙ n)
 
-      pub reply_unknown : (i : ℕ) → e ≡ NoAction i → Replies (printed (refused 13 i)) old new r → Replies (printed (checked_plan q site text)) old new r
-      unfolding ended
-      reply_unknown i n h = refused_as 13 i (ap ended n) h
-
-      pub reply_early : (i : ℕ) → e ≡ NotNow i → Replies (printed (refused 14 i)) old new r → Replies (printed (checked_plan q site text)) old new r
-      unfolding ended
-      reply_early i n h = refused_as 14 i (ap ended n) h
-
-      pub reply_short : (i : ℕ) → e ≡ NoGoal i → Replies (printed (refused 15 i)) old new r → Replies (printed (checked_plan q site text)) old new r
-      unfolding ended
-      reply_short i n h = refused_as 15 i (ap ended n) h
-
-      pub reply_done : (i : ℕ) → e ≡ Done i → (rest fresh words : List ℕ) → Copied w (take ((f.m.atoms + 63) / 64) (left ++ rest)) fresh words
-          → Replies (report_of q site f labels words ks) old new r → Replies (printed (checked_plan q site text)) old new r
-      unfolding ended
-      reply_done i n rest fresh words copy h =
-          let d = checked_done q site text K.filed K.is_read ks t p its_problem (state_fits q site f labels facts w K v) i (sym its_run.answer ∙ ap ended n) in
-          text_as _ _ old new r (report_as q site f labels facts w K (picks_of p ks) ks words (copied i n rest fresh words copy) v (checked_plan q site text) d) h
+      pub reply_done : (i : ℕ) → ended e ≡ accepted i → (rest fresh words : List ℕ) → Copied w (take ((m.atoms + 63) / 64) (left ++ rest)) fresh words
+          → (old new : List ℕ) (r : ℕ) → Replies (report_of q site f.o m labels words ks) old new r → Replies (printed (checked_plan q site text)) old new r
+      reply_done i n rest fresh words copy old new r h =
+          let d = checked_done q site text K.filed K.is_read ks t p its_problem (state_fits q site f labels facts w K m v) i (sym its_run.answer ∙ n) in
+          text_as _ _ old new r (report_as q site f labels facts w K (picks_of p ks) ks words (copied i n rest fresh words copy) m v (checked_plan q site text) d) h

@@ -1,5 +1,5 @@
 -- A case that was read: what its signature says of its problem, its labels, and its problem by the table. Assumes nothing.
-use Rattle.std.specs.Prelude.{ℕ, ◌*◌, ◌≤◌, ◌≡◌, refl, List, ◌++◌, length}
+use Rattle.std.specs.Prelude.{ℕ, ◌*◌, ◌≤◌, ◌≡◌, refl, List, ◌++◌, length, Ok}
 use Rattle.std.proofs.Common.{sym, subst, ◌∙◌, arith}
 use Rattle.std.proofs.Math.Nat.{pow-le-pow_left}
 use Rattle.definitions.specs.Limits.{CaseLimits, early}
@@ -17,7 +17,8 @@ use Rattle.read_sheets.specs.Reading.{PicksRoom}
 use Rattle.read_sheets.specs.Opening.{elements_are}
 use Rattle.read_sheets.proofs.Turns.{picks_room_lem}
 use Rattle.open_case.specs.declared.Front.{Front}
-use Rattle.open_case.specs.Fronts.{Filed, Held, filed_held}
+use Rattle.problem_of_case.specs.declared.Sized.{Sized}
+use Rattle.open_case.specs.Fronts.{Filed, Held}
 use Rattle.open_case.specs.Known.{tabled, words_are, atoms_few}
 use Rattle.read_names.specs.declared.Signature.{Signature}
 use Rattle.print_report.specs.Report.{head_of}
@@ -40,9 +41,8 @@ pub record Known (question site : List ℕ) (f : Front) (labels facts table : Li
   pub held : Held own question filed.case f facts table
   pub labelled : LabelsAre site labels f.o.n filed.labels
 
-pub case_known : (question site : List ℕ) (f : Front) (labels facts table : List ℕ) → Filed own question site f labels facts table → f.fault ≡ 0 → Known question site f labels facts table
-case_known question site f labels facts table x z =
-    let (c, e, h, l) = filed_held own question site f labels facts table x z in
+pub case_known : (question site : List ℕ) (f : Front) (labels facts table : List ℕ) → Filed own question site (Ok f) labels facts table → Known question site f labels facts table
+case_known question site f labels facts table (c, e, h, l) =
     record { filed = c; is_read = e; held = h; labelled = l }
 
 head_as : (say : ℕ → List ℕ) (q : List ℕ) (g : Signature) (n atoms atoms' actions actions' bound bound' : ℕ) (words rest : List ℕ) → atoms' ≡ atoms → actions' ≡ actions → bound' ≡ bound
@@ -72,16 +72,16 @@ module _ (q site : List ℕ) (f : Front) (labels facts table : List ℕ) (K : Kn
       (chosen_numbers_lem q c K.held.accepts f.o (bit facts) h) rest)
 
   -- the report of a plan, by the tables of its problem
-  pub report_as : (F : List Tuple) (ks words : List ℕ) → Agrees (problem_of c) F q f.o.sig f.o.n words → f.m.refusal ≡ 0
-      → (x : Result Plan) → x ≡ accepted (record { labels = K.filed.labels; problem = problem_of c; picks = F; steps = ks }) → printed x ≡ report_of q site f labels words ks
+  pub report_as : (F : List Tuple) (ks words : List ℕ) → Agrees (problem_of c) F q f.o.sig f.o.n words → (m : Sized) → f.m ≡ Ok m
+      → (x : Result Plan) → x ≡ accepted (record { labels = K.filed.labels; problem = problem_of c; picks = F; steps = ks }) → printed x ≡ report_of q site f.o m labels words ks
   unfolding report_of
-  report_as F ks words A v x e =
-      let t = tabled own c f.m table K.held.grounded v in
+  report_as F ks words A m v x e =
+      let t = tabled own c f.m table K.held.grounded m v in
       let s = said_so site labels f.o.n K.filed.labels K.labelled in
       report_is K.filed.labels (problem_of c) F ks _ q f.o.sig f.o.n words s A x e ∙ head_as _ q f.o.sig f.o.n _ _ _ _ _ _ words _ t.atoms_are t.actions_are t.bound_is
 
   pub reportable : (F : List Tuple) (words steps : List ℕ) → Agrees (problem_of c) F q f.o.sig f.o.n words → 7 * length F ≤ 16384 → 256 ≤ length words → length steps ≤ 8192
-      → Reportable q site f labels words steps
+      → Reportable q site f.o labels words steps
   reportable F words steps A few h l =
       let g = K.held.holds in
       let named = its_names q f.o.sig c g.rels g.chosen K.held.accepts in
@@ -99,8 +99,8 @@ module _ (q site : List ℕ) (f : Front) (labels facts table : List ℕ) (K : Kn
 
   -- ---- its problem: the program's state has room for the atoms
 
-  pub few_atoms : f.m.refusal ≡ 0 → f.m.atoms ≤ 65536
-  few_atoms v = atoms_few own c f.m table K.held.grounded v
+  pub few_atoms : (m : Sized) → f.m ≡ Ok m → m.atoms ≤ 65536
+  few_atoms m v = atoms_few own c f.m table K.held.grounded m v
 
-  pub state_fits : f.m.refusal ≡ 0 → state_length (problem_of c) ≤ 1024
-  state_fits v = let e = words_are own c f.m table K.held.grounded v in let h = few_atoms v in omega arith
+  pub state_fits : (m : Sized) → f.m ≡ Ok m → state_length (problem_of c) ≤ 1024
+  state_fits m v = let e = words_are own c f.m table K.held.grounded m v in let h = few_atoms m v in omega arith

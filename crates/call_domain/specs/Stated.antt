@@ -1,8 +1,10 @@
 -- What writing the domain answers and leaves. Assumes nothing.
-use Rattle.std.specs.Prelude.{ℕ, ◌+◌, ◌^◌, ◌≤◌, ◌<◌, ◌≡◌, List, length}
+use Rattle.std.specs.Prelude.{ℕ, ◌+◌, ◌^◌, ◌≤◌, ◌<◌, ◌≡◌, List, length, Ok, Err}
 use Rattle.std.proofs.Common.{sym, arith}
 use Rattle.definitions.specs.Limits.{usual}
 use Rattle.definitions.specs.Problem.Truth.{Case}
+use Rattle.definitions.specs.Refusal.{refused}
+use Rattle.definitions.specs.Reply.Outcome.{read_case}
 use Rattle.definitions.specs.Reply.Pddl.{domain_text, write_domain}
 use Rattle.bits.specs.Table.{bit}
 use Rattle.rule_nodes.specs.declared.Nodes.{Nodes}
@@ -20,31 +22,34 @@ use Rattle.print_domain.specs.Bounds.{bounded}
 use Rattle.print_domain.specs.Cases.{domain_is}
 use Rattle.print_domain.specs.Lengths.{domain_small}
 use Rattle.open_case.specs.declared.Front.{Front}
-use Rattle.open_case.specs.declared.Reply.{Reply}
-use Rattle.open_case.specs.declared.Reply.TheVariants.{Accepted as Fine, Refused}
+use Rattle.refusal.specs.declared.Refusal.{Refusal}
+use Rattle.refusal.specs.Numbers.{number_of}
+use Rattle.refusal.specs.declared.Cause.TheVariants.{ShortBuffer}
+use Rattle.problem_of_case.specs.declared.Sized.{Sized}
 use Rattle.open_case.specs.Fronts.{Held, Fronted}
-use Rattle.open_case.specs.Replies.{result_of}
-use Rattle.open_pddl.specs.Gates.{refusal_in, its}
-use Rattle.open_pddl.specs.Texts.{told, Writes, question_short, writes_short, writes_all}
+use Rattle.open_case.specs.Replies.{Reply, result_of}
+use Rattle.open_pddl.specs.Gates.{gate}
+use Rattle.open_pddl.specs.Texts.{told, question_short, writes_case, writes_gate, writes_short, writes_all}
 use Rattle.call_instance.specs.Stated as Instance
 use Instance.{Begun}
 
+-- what a call answers and leaves
 abbrev pub Stated : (question site old : List ℕ) → Reply → List ℕ → Type 0
-Stated question site old r new = Writes domain_text question site old r new
+Stated question site old r new = (result_of r ≡ (write_domain usual question site old).answer) × (new ≡ (write_domain usual question site old).text)
 
--- what the public call says
-pub stated_answer : (question site old : List ℕ) (r : Reply) (new : List ℕ) → Stated question site old r new → result_of r ≡ (write_domain usual question site old).answer
+pub stated_case : (question site old : List ℕ) (e : Refusal) → read_case usual question site ≡ refused (number_of e.cause) e.place → Stated question site old (Err e) old
 unfolding write_domain told
-stated_answer question site old r new h = h.0
+stated_case question site old e h = writes_case domain_text question site old e h
 
-pub stated_text : (question site old : List ℕ) (r : Reply) (new : List ℕ) → Stated question site old r new → new ≡ (write_domain usual question site old).text
+pub stated_gate : (question site old : List ℕ) (f : Front) (facts table : List ℕ) → Fronted usual question site (Ok f) facts table → (e : Refusal) → Err e ≡ gate f
+    → Stated question site old (Err e) old
 unfolding write_domain told
-stated_text question site old r new h = h.1
+stated_gate question site old f facts table its e q = writes_gate domain_text question site old f facts table its e q
 
 -- ---- what the writer asks for, of some case that was opened
 module _ (question : List ℕ) (f : Front) (facts : List ℕ) (B : Begun question f facts) where
-  abbrev held : Held usual question (its question B.site f facts B.table B.front B.fine).0 f facts B.table
-  held = (its question B.site f facts B.table B.front B.fine).2
+  abbrev held : Held usual question B.front.0 f facts B.table
+  held = B.front.2
 
   pub begun_rule : Accepted question f.o.rule.from f.o.rule.to f.o.sig
   begun_rule = rule_fine question f.o _ (bit facts) held.holds
@@ -59,14 +64,14 @@ module _ (question : List ℕ) (f : Front) (facts : List ℕ) (B : Begun questio
   begun_bounded g t m T = bounded _ _ t (inputs question f.o _ (bit facts) held.holds g t m T).tree T.fits
 
 -- ---- what it leaves
-module _ (question site old : List ℕ) (f : Front) (facts table : List ℕ) (front : Fronted usual question site f facts table) (z : f.fault ≡ 0) (q : 0 ≡ refusal_in f)
+module _ (question site old : List ℕ) (f : Front) (facts table : List ℕ) (its : Fronted usual question site (Ok f) facts table) (sized : Sized) (q : Ok sized ≡ gate f)
     (names : List ℕ) (N : Named f.o.sig.from f.o.sig.to f.o.sig.arity (f.o.sig.rels + f.o.sig.chosen + f.o.sig.every) names)
     (g : Relations) (fit : RelationsFit g) (m : Numbered f.o.sig g) (t : Nodes) (T : TableOf question f.o.rule.from f.o.rule.to f.o.sig t) where
   abbrev c : Case
-  c = (its question site f facts table front z).0
+  c = its.0
 
   abbrev holding : Held usual question c f facts table
-  holding = (its question site f facts table front z).2
+  holding = its.2
 
   abbrev text : List ℕ
   text = domain_in question names f.o.n g t
@@ -79,8 +84,10 @@ module _ (question site old : List ℕ) (f : Front) (facts table : List ℕ) (fr
   small : length text < 2 ^ 64
   small = domain_small question names f.o.n g t (omega (arith, question_short question c.question holding.holds.asked)) fit T.fits
 
-  pub stated_short : (scratch after : List ℕ) (bytes : ℕ) → Emits text scratch 0 after bytes → length old < bytes → Stated question site old (Refused 12 bytes) old
-  stated_short = writes_short domain_text question site old f facts table front z q text same small
+  pub stated_short : (scratch after : List ℕ) (bytes : ℕ) → Emits text scratch 0 after bytes → length old < bytes → Stated question site old (Err (record { cause = ShortBuffer; place = bytes })) old
+  unfolding write_domain told
+  stated_short = writes_short domain_text question site old f facts table its sized q text same small
 
-  pub stated_all : (scratch after new : List ℕ) (bytes last : ℕ) → Emits text scratch 0 after bytes → Emits text old 0 new last → bytes ≤ length old → Stated question site old (Fine bytes) new
-  stated_all = writes_all domain_text question site old f facts table front z q text same small
+  pub stated_all : (scratch after new : List ℕ) (bytes last : ℕ) → Emits text scratch 0 after bytes → Emits text old 0 new last → bytes ≤ length old → Stated question site old (Ok bytes) new
+  unfolding write_domain told
+  stated_all = writes_all domain_text question site old f facts table its sized q text same small

@@ -1,5 +1,5 @@
 -- What writing the instance answers and leaves. Assumes nothing.
-use Rattle.std.specs.Prelude.{ℕ, ◌+◌, ◌^◌, ◌≤◌, ◌<◌, ◌≡◌, length, get_or}
+use Rattle.std.specs.Prelude.{ℕ, ◌+◌, ◌^◌, ◌≤◌, ◌<◌, ◌≡◌, length, get_or, Ok, Err}
 use Rattle.std.proofs.Math.Path.{refl, ap}
 use Rattle.std.proofs.Common.{sym, ◌∙◌, arith}
 use mathlib.Core.List.{List}
@@ -8,6 +8,8 @@ use Rattle.definitions.specs.Sheet.Relations.{Relation}
 use Rattle.definitions.specs.Sheet.Sheets.{relations_of}
 use Rattle.definitions.specs.Problem.Truth.{Case}
 use Rattle.definitions.specs.Reply.Lifted.{relation_in}
+use Rattle.definitions.specs.Refusal.{refused}
+use Rattle.definitions.specs.Reply.Outcome.{read_case}
 use Rattle.definitions.specs.Reply.Pddl.{instance_text, write_instance}
 use Rattle.laws.specs.Lists.{get_or_mem}
 use Rattle.laws.specs.Numbers.{no_relation}
@@ -29,32 +31,34 @@ use Rattle.print_instance.specs.Texts.{RelationsKnown, instance_in}
 use Rattle.print_instance.specs.Cases.{instance_is}
 use Rattle.print_instance.specs.Lengths.{instance_small}
 use Rattle.open_case.specs.declared.Front.{Front}
-use Rattle.open_case.specs.declared.Reply.{Reply}
-use Rattle.open_case.specs.declared.Reply.TheVariants.{Accepted as Fine, Refused}
+use Rattle.refusal.specs.declared.Refusal.{Refusal}
+use Rattle.refusal.specs.Numbers.{number_of}
+use Rattle.refusal.specs.declared.Cause.TheVariants.{ShortBuffer}
+use Rattle.problem_of_case.specs.declared.Sized.{Sized}
 use Rattle.open_case.specs.Fronts.{Held, Fronted}
 use Rattle.open_case.specs.Known.{facts_held}
-use Rattle.open_case.specs.Replies.{result_of}
-use Rattle.open_pddl.specs.Gates.{refusal_in, its, passed}
-use Rattle.open_pddl.specs.Texts.{told, Writes, question_short, writes_short, writes_all}
+use Rattle.open_case.specs.Replies.{Reply, result_of}
+use Rattle.open_pddl.specs.Gates.{gate, passed}
+use Rattle.open_pddl.specs.Texts.{told, question_short, writes_case, writes_gate, writes_short, writes_all}
 
+-- what a call answers and leaves
 abbrev pub Stated : (question site old : List ℕ) → Reply → List ℕ → Type 0
-Stated question site old r new = Writes instance_text question site old r new
+Stated question site old r new = (result_of r ≡ (write_instance usual question site old).answer) × (new ≡ (write_instance usual question site old).text)
 
--- what the public call says
-pub stated_answer : (question site old : List ℕ) (r : Reply) (new : List ℕ) → Stated question site old r new → result_of r ≡ (write_instance usual question site old).answer
+pub stated_case : (question site old : List ℕ) (e : Refusal) → read_case usual question site ≡ refused (number_of e.cause) e.place → Stated question site old (Err e) old
 unfolding write_instance told
-stated_answer question site old r new h = h.0
+stated_case question site old e h = writes_case instance_text question site old e h
 
-pub stated_text : (question site old : List ℕ) (r : Reply) (new : List ℕ) → Stated question site old r new → new ≡ (write_instance usual question site old).text
+pub stated_gate : (question site old : List ℕ) (f : Front) (facts table : List ℕ) → Fronted usual question site (Ok f) facts table → (e : Refusal) → Err e ≡ gate f
+    → Stated question site old (Err e) old
 unfolding write_instance told
-stated_text question site old r new h = h.1
+stated_gate question site old f facts table its e q = writes_gate instance_text question site old f facts table its e q
 
 -- some case was opened
 pub record Begun (question : List ℕ) (f : Front) (facts : List ℕ) : Type 0 where
   pub site : List ℕ
   pub table : List ℕ
-  pub front : Fronted usual question site f facts table
-  pub fine : f.fault ≡ 0
+  pub front : Fronted usual question site (Ok f) facts table
 
 -- ---- of a case that holds
 module _ (question : List ℕ) (f : Front) (c : Case) (facts table : List ℕ) (H : Held usual question c f facts table) where
@@ -91,8 +95,8 @@ module _ (question : List ℕ) (f : Front) (c : Case) (facts table : List ℕ) (
 
 -- ---- what the writer asks for
 module _ (question : List ℕ) (f : Front) (facts : List ℕ) (B : Begun question f facts) where
-  abbrev held : Held usual question (its question B.site f facts B.table B.front B.fine).0 f facts B.table
-  held = (its question B.site f facts B.table B.front B.fine).2
+  abbrev held : Held usual question B.front.0 f facts B.table
+  held = B.front.2
 
   pub begun_sound : SoundSignature question f.o.sig
   begun_sound = held.holds.sound
@@ -107,21 +111,21 @@ module _ (question : List ℕ) (f : Front) (facts : List ℕ) (B : Begun questio
   begun_known g fit m = known question f _ facts B.table held g fit m
 
 -- ---- what it leaves
-module _ (question site old : List ℕ) (f : Front) (facts table : List ℕ) (front : Fronted usual question site f facts table) (z : f.fault ≡ 0) (q : 0 ≡ refusal_in f)
+module _ (question site old : List ℕ) (f : Front) (facts table : List ℕ) (its : Fronted usual question site (Ok f) facts table) (sized : Sized) (q : Ok sized ≡ gate f)
     (names : List ℕ) (N : Named f.o.sig.from f.o.sig.to f.o.sig.arity (f.o.sig.rels + f.o.sig.chosen + f.o.sig.every) names)
     (g : Relations) (fit : RelationsFit g) (m : Numbered f.o.sig g) where
   abbrev c : Case
-  c = (its question site f facts table front z).0
+  c = its.0
 
   abbrev holding : Held usual question c f facts table
-  holding = (its question site f facts table front z).2
+  holding = its.2
 
   abbrev text : List ℕ
   text = instance_in question names facts f.o.n g
 
   same : instance_text c ≡ text
   same =
-      let pass = passed question site f facts table front z q in
+      let pass = passed question site f facts table its sized q in
       let K = known question f c facts table holding g fit m in
       instance_is c question names (named question f c facts table holding names N) table facts g f.o.n pass.table_of_lem.fits pass.table_of_lem.is (facts_held question c f.o facts holding.holds)
       holding.holds.size K.some (count_is question f c facts table holding g fit m) (arity_is question f c facts table holding g fit m) (kind_is question f c facts table holding g fit m) (λ r l. (K.placed r l).0)
@@ -129,8 +133,10 @@ module _ (question site old : List ℕ) (f : Front) (facts table : List ℕ) (fr
   small : length text < 2 ^ 64
   small = instance_small question names facts (omega (arith, question_short question c.question holding.holds.asked)) f.o.n g (known question f c facts table holding g fit m)
 
-  pub stated_short : (scratch after : List ℕ) (bytes : ℕ) → Emits text scratch 0 after bytes → length old < bytes → Stated question site old (Refused 12 bytes) old
-  stated_short = writes_short instance_text question site old f facts table front z q text same small
+  pub stated_short : (scratch after : List ℕ) (bytes : ℕ) → Emits text scratch 0 after bytes → length old < bytes → Stated question site old (Err (record { cause = ShortBuffer; place = bytes })) old
+  unfolding write_instance told
+  stated_short = writes_short instance_text question site old f facts table its sized q text same small
 
-  pub stated_all : (scratch after new : List ℕ) (bytes last : ℕ) → Emits text scratch 0 after bytes → Emits text old 0 new last → bytes ≤ length old → Stated question site old (Fine bytes) new
-  stated_all = writes_all instance_text question site old f facts table front z q text same small
+  pub stated_all : (scratch after new : List ℕ) (bytes last : ℕ) → Emits text scratch 0 after bytes → Emits text old 0 new last → bytes ≤ length old → Stated question site old (Ok bytes) new
+  unfolding write_instance told
+  stated_all = writes_all instance_text question site old f facts table its sized q text same small

@@ -1,16 +1,15 @@
 -- Judging from words: the order of refusals after the texts, one law for each place where it can end.
-use Rattle.std.specs.Prelude.{ℕ, zero, ◌+◌, ◌^◌, ◌≤◌, ◌<◌, ◌≡◌, Bool, List, ◌++◌}
+use Rattle.std.specs.Prelude.{ℕ, zero, suc, ◌&&◌, ◌+◌, ◌^◌, ◌≤◌, ◌<◌, ◌≡◌, Bool, List, ◌++◌}
 use Rattle.std.proofs.Math.Path.{refl, sym, ap}
-use Rattle.std.proofs.Common.{subst, ◌∙◌, arith, pow_mono}
+use Rattle.std.proofs.Common.{add-one, subst, ◌∙◌, pow_mono}
 use Rattle.std.proofs.Math.Bool.{true, false}
 use Rattle.std.proofs.Math.Option.{none, some}
-use Rattle.std.proofs.Math.Decide.{dec_lt}
 use Rattle.std.proofs.Math.ListN.{length}
 use Rattle.definitions.specs.Limits.{CaseLimits, usual}
-use Rattle.definitions.specs.Lists.{position}
+use Rattle.definitions.specs.Lists.{all, from, below, position}
+use Rattle.std.specs.List.{list_all, range_with_len}
 use Rattle.definitions.specs.Refusal.{Result, refused, accepted, ◌>>=◌, refuse_if}
 use Rattle.definitions.specs.Sheet.Relations.{Tuple}
-use Rattle.definitions.specs.Sheet.Sheets.{relations}
 use Rattle.definitions.specs.Problem.Truth.{Case, are_picks, every_tuples, values, every_value, rule_holds, rule_is_true, first_of_other_kind}
 use Rattle.definitions.specs.Problem.Atoms.{Problem, problem_of}
 use Rattle.definitions.specs.Problem.Built.{chosen_numbers}
@@ -26,25 +25,23 @@ use Rattle.problem_layout.specs.declared.Relations.{Relations}
 use Rattle.problem_layout.specs.declared.Ranges.{Ranges}
 use Rattle.problem_layout.specs.Laid.{RangesFit, RangesAre, Inputs}
 use Rattle.step_start.specs.Initial.{FactsIn}
-use Rattle.step_picks.specs.declared.Kinds.{Kinds}
-use Rattle.step_picks.specs.declared.Kinds.TheVariants.{Kept, Broken}
-use Rattle.step_picks.specs.Tests.{told as toldKinds, broken_at}
+use Rattle.step_picks.specs.Tests.{told, broken_at}
 use Rattle.step_picks.specs.Words.{rows_in, PicksAre}
-use Rattle.step_picks.specs.Spare.{spare_found}
 use Rattle.step_picks.specs.KindLaws.{kinds_are}
 use Rattle.eval_table.specs.Lined.{Lined}
 use Rattle.eval_table.specs.Numbers.{LinesOf}
 use Rattle.read_sheets.specs.declared.Opened.{Opened}
 use Rattle.read_sheets.specs.Opening.{Holds, FiledRead}
-use Rattle.open_case.specs.declared.Reply.{Reply}
-use Rattle.open_case.specs.declared.Reply.TheVariants.{Refused, Accepted as Yes}
-use Rattle.open_case.specs.Replies.{result_of}
+use Rattle.refusal.specs.declared.Refusal.{Refusal}
+use Rattle.refusal.specs.declared.Cause.TheVariants.{OtherKind, Repeated, RuleFalse, ShortBuffer}
+use Rattle.refusal.specs.Numbers.{number_of}
+use Rattle.std.specs.Prelude.{Ok, Err, Some, None}
+use Rattle.std.specs.Prelude as P
+use Rattle.open_case.specs.Replies.{Reply, result_of}
 use Rattle.open_case.specs.Known.{facts_held, room_short, room_there}
 use Rattle.step_picks.specs.Picked.{front_picks}
 use Rattle.step_picks.specs.Handed.{decided, Handed, spare_refused, spare_clear}
 use Rattle.problem_relations.specs.Bare.{bare, kinds_same}
-use Rattle.step_picks.specs.declared.Spare.{Spare}
-use Rattle.step_picks.specs.declared.Spare.TheVariants.{Clear, Word}
 
 -- 16, 17, yes
 unfoldable pub verdict : Case → List Tuple → Result ℕ
@@ -96,23 +93,11 @@ pub record FromWords (question : List ℕ) (o : Opened) (facts : ℕ → Bool) (
 
 -- and of picks as a text, by the labels that were read
 abbrev pub FromText : (question site : List ℕ) → Opened → List ℕ → (ℕ → Bool) → List ℕ → Reply → Type 0
-FromText question site o labels facts text r = FiledRead question site (read_filed usual question site) o labels facts → o.fault ≡ 0 → result_of r ≡ judge usual question site (as_text text)
+FromText question site o labels facts text r = FiledRead question site (read_filed usual question site) (Ok o) labels facts → result_of r ≡ judge usual question site (as_text text)
 
 -- ---- lines of a case
 pub lines_of : (c : Case) (n : ℕ) (ms : List ℕ) (types : ℕ) (ranges : Ranges) (g : Relations) (t : Nodes) (w : List ℕ) → Ranged n types ms ranges → Fits t → Inputs (problem_of c) n ms types g t → (value : ℕ) → Lined n value ms types ranges.count g t w → LinesOf c n value w
 lines_of c n ms types ranges g t w R f i value l = record { relations = g; nodes = t; some = R.some; size = R.few; members = ms; types = types; ranges = ranges; counted = R.are; inputs = i; fits = f; lined = l }
-
--- ---- value by value: those before it have been tried
-abbrev pub Tried : ℕ → List ℕ → ℕ → Relations → Nodes → (facts words : List ℕ) → ℕ → Type 0
-Tried n w types g t facts words value = (c : Case) (F : List Tuple) → Judged c F n w types g t facts words → (k : ℕ) → k < value → rule_holds c (F ++ every_value c k) ≡ true
-
-pub tried_next : (n : ℕ) (w : List ℕ) (types : ℕ) (g : Relations) (t : Nodes) (facts words : List ℕ) (value : ℕ) (b : Bool) → HoldsWith n w types g t facts words value b → b ≡ true → Tried n w types g t facts words value
-    → Tried n w types g t facts words (value + 1)
-tried_next n w types g t facts words value b h e s c F j k l = from_this (dec_lt k value)
-  where
-    from_this : Dec (k < value) → rule_holds c (F ++ every_value c k) ≡ true
-    from_this (yes q) = s c F j k q
-    from_this (no q) = let z : k ≡ value = omega arith in rw z (sym (h c F j) ∙ e)
 
 pub values_are : (c : Case) (k : ℕ) → k ≡ every_tuples c → 2 ^ k ≡ values c
 unfolding values
@@ -122,26 +107,26 @@ pub few_values : (k : ℕ) → k ≤ 8 → 2 ^ k ≤ 256
 few_values k h = pow_mono {i = k} {j = 8} h
 
 -- ---- 16, 17, yes
-module _ (c : Case) (F : List Tuple) (n : ℕ) (ms : List ℕ) (types : ℕ) (g : Relations) (t : Nodes) (table facts words : List ℕ) (asks : Asks c F n ms types g t table facts words) (k : Kinds)
-    (e : toldKinds k ≡ position (broken_at (bare (problem_of c)) (rows_in (bare (problem_of c)) words)) (chosen_numbers (bare (problem_of c)))) where
-  kinds_told : toldKinds k ≡ first_of_other_kind c F
+module _ (c : Case) (F : List Tuple) (n : ℕ) (ms : List ℕ) (types : ℕ) (g : Relations) (t : Nodes) (table facts words : List ℕ) (asks : Asks c F n ms types g t table facts words) (k : P.Option ℕ)
+    (e : told k ≡ position (broken_at (bare (problem_of c)) (rows_in (bare (problem_of c)) words)) (chosen_numbers (bare (problem_of c)))) where
+  kinds_told : told k ≡ first_of_other_kind c F
   kinds_told = e ∙ kinds_same (problem_of c) words ∙ kinds_are c asks.judged.accepted_case F asks.judged.picks words asks.judged.picked
 
-  pub decides_kind : (i : ℕ) → k ≡ Broken i → result_of (Refused 16 i) ≡ verdict c F
-  unfolding result_of verdict decided satisfying take_picks kind_refusal toldKinds ◌>>=◌
-  decides_kind i q = let z : first_of_other_kind c F ≡ some i = sym kinds_told ∙ ap toldKinds q in rw z refl
+  pub decides_kind : (i : ℕ) → k ≡ Some i → result_of (Err (record { cause = OtherKind; place = i })) ≡ verdict c F
+  unfolding verdict decided satisfying take_picks kind_refusal told ◌>>=◌
+  decides_kind i q = let z : first_of_other_kind c F ≡ some i = sym kinds_told ∙ ap told q in rw z refl
 
-  module _ (q : k ≡ Kept) (b : Bool) (f : b ≡ rule_is_true c F) where
+  module _ (q : k ≡ None) (b : Bool) (f : b ≡ rule_is_true c F) where
     none_told : first_of_other_kind c F ≡ none
-    unfolding toldKinds
-    none_told = sym kinds_told ∙ ap toldKinds q
+    unfolding told
+    none_told = sym kinds_told ∙ ap told q
 
-    pub decides_yes : b ≡ true → result_of (Yes 0) ≡ verdict c F
-    unfolding result_of verdict decided satisfying take_picks kind_refusal refuse_if ◌>>=◌
+    pub decides_yes : b ≡ true → result_of (Ok 0) ≡ verdict c F
+    unfolding verdict decided satisfying take_picks kind_refusal refuse_if ◌>>=◌
     decides_yes y = let z : rule_is_true c F ≡ true = sym f ∙ y in rw (none_told, z) refl
 
-    pub decides_no : b ≡ false → result_of (Refused 17 0) ≡ verdict c F
-    unfolding result_of verdict decided satisfying take_picks kind_refusal refuse_if ◌>>=◌
+    pub decides_no : b ≡ false → result_of (Err (record { cause = RuleFalse; place = 0 })) ≡ verdict c F
+    unfolding verdict decided satisfying take_picks kind_refusal refuse_if ◌>>=◌
     decides_no y = let z : rule_is_true c F ≡ false = sym f ∙ y in rw (none_told, z) refl
 
 -- ---- the places where judging can end
@@ -150,9 +135,9 @@ module _ (L : CaseLimits) (question site : List ℕ) (picks : ThirdInput) where
   opening = asked L question site (λ x. text_picks x.case x.labels picks) nothing nothing (λ p. picks_room p picks)
 
   -- refused before the picks are taken
-  pub ends : (k place : ℕ) → opening ≡ refused k place → (r : Reply) → result_of r ≡ refused k place → result_of r ≡ judge L question site picks
+  pub ends : (e : Refusal) → opening ≡ refused (number_of e.cause) e.place → result_of (Err e) ≡ judge L question site picks
   unfolding judge ◌>>=◌
-  ends k place e r q = q ∙ rw e refl
+  ends e h = rw h refl
 
   -- from words, by whether the limits refuse the case
   module _ (x : CaseRead) (read : read_filed L question site ≡ accepted x) (words : List ℕ) (given F : List Tuple) (handed : Handed x.case x.labels picks words given F) where
@@ -162,19 +147,17 @@ module _ (L : CaseLimits) (question site : List ℕ) (picks : ThirdInput) where
     abbrev p : Problem
     p = problem_of c
 
-    pub ends_over : (k : ℕ) → ground L c ≡ refused k 0 → result_of (Refused k 0) ≡ judge L question site picks
-    unfolding result_of
-    ends_over k e = ends k 0 (Order.limits_refused L question site _ _ _ _ x read given handed.is_read (Order.untested c) k 0 e) (Refused k 0) refl
+    pub ends_over : (e : Refusal) → ground L c ≡ refused (number_of e.cause) e.place → result_of (Err e) ≡ judge L question site picks
+    ends_over e g = ends e (Order.limits_refused L question site _ _ _ _ x read given handed.is_read (Order.untested c) (number_of e.cause) e.place g)
 
     module _ (grounded : ground L c ≡ accepted p) where
       module _ (k : ℕ) (q : k ≡ picks_length p) where
-        pub ends_short : length words < k → result_of (Refused 12 k) ≡ judge L question site picks
-        unfolding result_of
+        pub ends_short : length words < k → result_of (Err (record { cause = ShortBuffer; place = k })) ≡ judge L question site picks
         ends_short h =
             let b = handed.room_is ∙ room_short (picks_length p) (length words) (subst (λ (x : ℕ). length words < x) q h) in
-            ends 12 (picks_length p) (Order.room_refused L question site _ _ _ _ x read given handed.is_read (Order.untested c) p grounded (Order.untested c) 12 (picks_length p) b) (Refused 12 k) (ap (refused 12) q)
+            ends (record { cause = ShortBuffer; place = k }) (Order.room_refused L question site _ _ _ _ x read given handed.is_read (Order.untested c) p grounded (Order.untested c) 12 (picks_length p) b ∙ ap (refused 12) (sym q))
 
-        module _ (room : k ≤ length words) (s : Spare) (e : spare_found s ≡ spare_word p words zero (chosen_numbers p)) where
+        module _ (room : k ≤ length words) (s : P.Option ℕ) (e : told s ≡ spare_word p words zero (chosen_numbers p)) where
           judged_then : judge L question site picks ≡ (satisfying c p picks given >>= λ _. accepted zero)
           unfolding judge ◌>>=◌
           judged_then =
@@ -182,14 +165,14 @@ module _ (L : CaseLimits) (question site : List ℕ) (picks : ThirdInput) where
               let d : opening ≡ accepted (record { case = c; labels = x.labels; problem = p; third = given }) = Order.ready L question site _ _ _ _ x read given handed.is_read (Order.untested c) p grounded (Order.untested c) b in
               rw d refl
 
-          pub ends_spare : (j : ℕ) → s ≡ Word j → result_of (Refused 10 j) ≡ judge L question site picks
-          unfolding result_of spare_found ◌>>=◌
-          ends_spare j z = sym (judged_then ∙ rw (spare_refused c x.labels picks words given F handed j (sym e ∙ ap spare_found z)) refl)
+          pub ends_spare : (j : ℕ) → s ≡ Some j → result_of (Err (record { cause = Repeated; place = j })) ≡ judge L question site picks
+          unfolding told ◌>>=◌
+          ends_spare j z = sym (judged_then ∙ rw (spare_refused c x.labels picks words given F handed j (sym e ∙ ap told z)) refl)
 
-          module _ (z : s ≡ Clear) where
+          module _ (z : s ≡ None) where
             clear : spare_word p words zero (chosen_numbers p) ≡ none
-            unfolding spare_found
-            clear = sym e ∙ ap spare_found z
+            unfolding told
+            clear = sym e ∙ ap told z
 
             pub ends_judged : (r : Reply) → result_of r ≡ verdict c F → result_of r ≡ judge L question site picks
             unfolding verdict
@@ -201,3 +184,13 @@ module _ (L : CaseLimits) (question site : List ℕ) (picks : ThirdInput) where
             asks_of o' facts h A n ms types g t table i is =
                 let (a, front) = handed.held (subst (λ (x : ℕ). x ≤ length words) q room) clear in
                 record { judged = record { accepted_case = A; picks = a; inputs = i; facts_in = facts_held question c o' facts h; picked = front_picks p F words front }; is = is }
+
+-- the numbers below n, as the library has them
+every_from : (test : ℕ → Bool) (a n : ℕ) → list_all test (range_with_len a n) ≡ all test (from a n)
+unfolding all from
+every_from test a zero = refl
+every_from test a (suc n) = rw add-one (ap (λ (b : Bool). test a && b) (every_from test (suc a) n))
+
+pub true_with_all : (c : Case) (F : List Tuple) (r : Bool) (count : ℕ) → count ≡ values c → r ≡ list_all (λ (k : ℕ). rule_holds c (F ++ every_value c k)) (range_with_len 0 count) → r ≡ rule_is_true c F
+unfolding rule_is_true below
+true_with_all c F r count e h = h ∙ every_from (λ (k : ℕ). rule_holds c (F ++ every_value c k)) 0 count ∙ ap (λ (n : ℕ). all (λ (k : ℕ). rule_holds c (F ++ every_value c k)) (from 0 n)) e

@@ -20,7 +20,8 @@ ghost use Rattle.call_judge.specs.Judges.{verdict, AcceptedIn, Ranged, SomeCase,
 
 use open_case::Reply;
 use problem_layout::{Ranges, Relations};
-use read_sheets::{Answer, Opened};
+use read_sheets::Opened;
+use refusal::Cause;
 use rule_nodes::Nodes;
 
 // Whether the rule holds of picks and one value of the `every` relation: its lines are filled for that value, then evaluated.
@@ -59,15 +60,7 @@ fn is_true(
     requires { Ranged n types members.now ranges × RelationsFit g × «Tree_fits» t × SomeCase n members.now types g t × (count ≤ 256) }
     ensures { (c : Case) (F : List Tuple) → Judged c F n members.now types g t facts.now picks.now → count ≡ values c → result ≡ rule_is_true c F }
 {
-    let mut value: usize = 0;
-    while value < count {
-        let b = holds_with(n, types, members, ranges, g, t, facts, picks, value);
-        if !b {
-            return false;
-        }
-        value += 1;
-    }
-    true
+    (0..count).all(|value| holds_with(n, types, members, ranges, g, t, facts, picks, value))
 }
 
 // How many values a relation of so many tuples has.
@@ -94,16 +87,13 @@ fn decide(
     requires { Fits table.now × Ranged n types members.now ranges × RelationsFit g × «Tree_fits» t × SomeCase n members.now types g t × (count ≤ 256) }
     ensures { (c : Case) (F : List Tuple) → Asks c F n members.now types g t table.now facts.now picks.now → count ≡ values c → result_of result ≡ verdict c F }
 {
-    let kinds = step_picks::test_kinds(table, picks);
-    match kinds {
-        step_picks::Kinds::Broken(i) => Reply::Refused(16, i),
-        step_picks::Kinds::Kept => {
-            if is_true(n, types, members, ranges, g, t, facts, picks, count) {
-                return Reply::Accepted(0);
-            }
-            Reply::Refused(17, 0)
-        }
+    if let Some(i) = step_picks::test_kinds(table, picks) {
+        return Err(Cause::OtherKind.at(i));
     }
+    if is_true(n, types, members, ranges, g, t, facts, picks, count) {
+        return Ok(0);
+    }
+    Err(Cause::RuleFalse.at(0))
 }
 
 // Of a case that was read, from picks that stand in words: 11, 23, 12, 10, then what is decided. Words past the needed length are not
@@ -121,27 +111,21 @@ fn judge_case(question: &[u8], o: Opened, facts: &[u64], picks: &[u64]) -> Reply
     let g = problem_of_case::relations_of(sig);
     let t = rule_rewrite::nodes_of(question, rule.from, rule.to, sig);
     let m = problem_sizes::of_tables(n, ranges, g, t);
-    let k = problem_sizes::refusal(m, open_case::usual_limits());
-    if k != 0 {
-        return Reply::Refused(k, 0);
-    }
+    problem_of_case::within(m, open_case::usual_limits())?;
     let count = values_of(m.tuples);
     let mut table = [0usize; problem_table::TABLE];
     let l = problem_layout::lay_out(n, ranges, g, t);
     problem_relations::fill(&mut table, n, types, &members, ranges, g, l);
     let held = step_picks::picks_length(&table);
     if picks.len() < held {
-        return Reply::Refused(12, held);
+        return Err(Cause::ShortBuffer.at(held));
     }
-    let s = step_picks::spare_word(&table, picks);
-    match s {
-        step_picks::Spare::Word(j) => Reply::Refused(10, j),
-        step_picks::Spare::Clear => {
-            decide(
-                &table, n, types, &members, ranges, g, t, facts, picks, count,
-            )
-        }
+    if let Some(j) = step_picks::spare_word(&table, picks) {
+        return Err(Cause::Repeated.at(j));
     }
+    decide(
+        &table, n, types, &members, ranges, g, t, facts, picks, count,
+    )
 }
 
 // Of a case that was read, from picks as a text: they are read into the lent words, which are enough and come in cleared.
@@ -159,11 +143,8 @@ fn judge_listed(
     ensures { FromText question.now site.now o labels.now (bit facts.now) picks.now result }
 {
     let sig = o.sig;
-    let a = read_sheets::picks(question, sig, picks, o.n, site, labels, words);
-    match a {
-        Answer::Refused(k, place) => Reply::Refused(k, place),
-        Answer::Done(_) => judge_case(question, o, facts, words),
-    }
+    read_sheets::picks(question, sig, picks, o.n, site, labels, words)?;
+    judge_case(question, o, facts, words)
 }
 
 // Judges picks as a text; the words for the facts are lent.
@@ -172,28 +153,19 @@ fn judge_text_in(question: &[u8], site: &[u8], picks: &[u8], facts: &mut [u64]) 
     ensures { result_of result ≡ judge usual question.now site.now (as_text picks.now) }
 {
     let mut labels = [0usize; read_sheets::LABELS];
-    let o = read_sheets::read_filed(question, site, open_case::ELEMENTS, &mut labels, facts);
-    if o.fault != 0 {
-        return Reply::Refused(o.fault, o.place);
-    }
-    if o.n <= open_case::SMALL_SIZE {
-        let mut few = [0u64; open_case::FEW_PICKS];
-        return judge_listed(question, site, o, &labels, facts, picks, &mut few);
-    }
-    let mut words = [0u64; open_case::PICKS];
-    judge_listed(question, site, o, &labels, facts, picks, &mut words)
+    let o = read_sheets::read_filed(question, site, open_case::ELEMENTS, &mut labels, facts)?;
+    open_room::with_picks(o.n, |words: &mut [u64]| {
+        judge_listed(question, site, o, &labels, facts, picks, words)
+    })
 }
 
 // Whether the rule is true of picks that are handed over as a text.
 pub fn judge_text(question: &[u8], site: &[u8], picks: &[u8]) -> Reply
     ensures { result_of result ≡ judge usual question.now site.now (as_text picks.now) }
 {
-    if open_case::is_small(site) {
-        let mut few = [0u64; open_case::FEW];
-        return judge_text_in(question, site, picks, &mut few);
-    }
-    let mut facts = [0u64; open_case::FACTS];
-    judge_text_in(question, site, picks, &mut facts)
+    open_room::with_facts(site, |facts: &mut [u64]| {
+        judge_text_in(question, site, picks, facts)
+    })
 }
 
 // Judges lent picks; the words for the facts are lent too.
@@ -201,10 +173,7 @@ fn judge_lent_in(question: &[u8], site: &[u8], picks: &[u64], facts: &mut [u64])
     requires { FactsRoom site.now 64 (length facts.old) × (bit facts.old ≡ λ i. false) }
     ensures { result_of result ≡ judge usual question.now site.now (as_numbers picks.now) }
 {
-    let o = read_sheets::read_case(question, site, open_case::ELEMENTS, facts);
-    if o.fault != 0 {
-        return Reply::Refused(o.fault, o.place);
-    }
+    let o = read_sheets::read_case(question, site, open_case::ELEMENTS, facts)?;
     judge_case(question, o, facts, picks)
 }
 
@@ -212,10 +181,7 @@ fn judge_lent_in(question: &[u8], site: &[u8], picks: &[u64], facts: &mut [u64])
 pub fn judge_lent(question: &[u8], site: &[u8], picks: &[u64]) -> Reply
     ensures { result_of result ≡ judge usual question.now site.now (as_numbers picks.now) }
 {
-    if open_case::is_small(site) {
-        let mut few = [0u64; open_case::FEW];
-        return judge_lent_in(question, site, picks, &mut few);
-    }
-    let mut facts = [0u64; open_case::FACTS];
-    judge_lent_in(question, site, picks, &mut facts)
+    open_room::with_facts(site, |facts: &mut [u64]| {
+        judge_lent_in(question, site, picks, facts)
+    })
 }

@@ -27,10 +27,12 @@ use Rattle.problem_layout.specs.declared.Relations.{Relations}
 use Rattle.problem_layout.specs.Laid.{Inputs}
 use Rattle.call_monotone.specs.Wants.{kind_at, kinds_are}
 use Rattle.read_sheets.specs.declared.Opened.{Opened}
-use Rattle.read_sheets.specs.Opening.{Holds, CaseRead, case_refused, case_read}
-use Rattle.open_case.specs.declared.Reply.{Reply}
-use Rattle.open_case.specs.declared.Reply.TheVariants.{Refused, Accepted as Yes}
-use Rattle.open_case.specs.Replies.{result_of}
+use Rattle.read_sheets.specs.Opening.{Holds, CaseRead}
+use Rattle.refusal.specs.declared.Refusal.{Refusal}
+use Rattle.refusal.specs.declared.Cause.TheVariants.{NoPicks, NotMonotone}
+use Rattle.refusal.specs.Numbers.{number_of}
+use Rattle.std.specs.Prelude.{Ok, Err}
+use Rattle.open_case.specs.Replies.{Reply, result_of}
 
 -- an accepted case was read
 pub record AcceptedIn (s : List ℕ) (o : Opened) (facts : ℕ → Bool) : Type 0 where
@@ -38,27 +40,23 @@ pub record AcceptedIn (s : List ℕ) (o : Opened) (facts : ℕ → Bool) : Type 
   pub accepted_case : Accepted case
   pub holds : Holds s case o facts
 
-module _ (L : CaseLimits) (question site : List ℕ) (o : Opened) (facts : ℕ → Bool) (read : CaseRead question (read_case L question site) o facts) where
-  refused_with : (k place : ℕ) → asked L question site nothing nothing nothing nothing ≡ refused k place → result_of (Refused k place) ≡ monotone L question site
-  unfolding monotone result_of ◌>>=◌
-  refused_with k place e = rw e refl
+module _ (L : CaseLimits) (question site : List ℕ) where
+  refused_with : (e : Refusal) → asked L question site nothing nothing nothing nothing ≡ refused (number_of e.cause) e.place → result_of (Err e) ≡ monotone L question site
+  unfolding monotone ◌>>=◌
+  refused_with e h = rw h refl
 
-  pub ends_case : (o.fault ≡ 0 → ⊥) → result_of (Refused o.fault o.place) ≡ monotone L question site
-  ends_case z = refused_with _ _ (Asked.case_refused L question site nothing nothing nothing nothing _ _ (case_refused L question site o facts read z))
+  pub ends_case : (e : Refusal) → read_case L question site ≡ refused (number_of e.cause) e.place → result_of (Err e) ≡ monotone L question site
+  ends_case e h = refused_with e (Asked.case_refused L question site nothing nothing nothing nothing _ _ h)
 
-  module _ (z : o.fault ≡ 0) where
-    -- the case that was read
-    abbrev its : (c : Case) × (read_case L question site ≡ accepted c) × Holds question c o facts
-    its = case_read L question site o facts read z
-
+  module _ (o : Opened) (facts : ℕ → Bool) (its : (c : Case) × (read_case L question site ≡ accepted c) × Holds question c o facts) where
     abbrev p : Problem
     p = problem_of its.0
 
     pub accepted_in : L.elements ≤ 64 → AcceptedIn question o facts
     accepted_in few = record { case = its.0; accepted_case = gives_if Accepted (read_case L question site) its.0 its.1 (case_fits L few question site); holds = its.2 }
 
-    pub ends_over : (k : ℕ) → ground L its.0 ≡ refused k 0 → result_of (Refused k 0) ≡ monotone L question site
-    ends_over k e = refused_with k 0 (Alone.limits_refused L question site nothing nothing nothing nothing its.0 its.1 tt (λ _. Asked.untested _) (Asked.untested its.0) k 0 e)
+    pub ends_over : (e : Refusal) → ground L its.0 ≡ refused (number_of e.cause) e.place → result_of (Err e) ≡ monotone L question site
+    ends_over e g = refused_with e (Alone.limits_refused L question site nothing nothing nothing nothing its.0 its.1 tt (λ _. Asked.untested _) (Asked.untested its.0) (number_of e.cause) e.place g)
 
     module _ (grounded : ground L its.0 ≡ accepted p) where
       then_is : monotone L question site ≡ (refuse_if (not (only_wants_more its.0.question)) 24 zero >>= λ _. refuse_if (not (rule_is_true its.0 (cells p))) 21 zero >>= λ _. accepted zero)
@@ -67,17 +65,17 @@ module _ (L : CaseLimits) (question site : List ℕ) (o : Opened) (facts : ℕ �
           let g = Alone.ready L question site nothing nothing nothing nothing its.0 its.1 tt (λ _. Asked.untested _) (Asked.untested its.0) p grounded (Asked.untested its.0) (Asked.untested p) in
           rw g refl
 
-      pub ends_else : only_wants_more its.0.question ≡ false → result_of (Refused 24 0) ≡ monotone L question site
-      unfolding refuse_if result_of ◌>>=◌
+      pub ends_else : only_wants_more its.0.question ≡ false → result_of (Err (record { cause = NotMonotone; place = 0 })) ≡ monotone L question site
+      unfolding refuse_if ◌>>=◌
       ends_else e = sym (then_is ∙ rw e refl)
 
       module _ (e : only_wants_more its.0.question ≡ true) (b : Bool) (is : b ≡ rule_is_true its.0 (cells p)) where
-        pub ends_yes : b ≡ true → result_of (Yes 0) ≡ monotone L question site
-        unfolding refuse_if result_of ◌>>=◌
+        pub ends_yes : b ≡ true → result_of (Ok 0) ≡ monotone L question site
+        unfolding refuse_if ◌>>=◌
         ends_yes t = let q : rule_is_true its.0 (cells p) ≡ true = sym is ∙ t in sym (then_is ∙ rw (e, q) refl)
 
-        pub ends_no : b ≡ false → result_of (Refused 21 0) ≡ monotone L question site
-        unfolding refuse_if result_of ◌>>=◌
+        pub ends_no : b ≡ false → result_of (Err (record { cause = NoPicks; place = 0 })) ≡ monotone L question site
+        unfolding refuse_if ◌>>=◌
         ends_no t = let q : rule_is_true its.0 (cells p) ≡ false = sym is ∙ t in sym (then_is ∙ rw (e, q) refl)
 
 -- ---- the profile of a case that was read

@@ -24,6 +24,7 @@ ghost use Rattle.call_monotone.specs.Answers.{AcceptedIn};
 use open_case::Reply;
 use problem_layout::Relations;
 use read_sheets::Opened;
+use refusal::Cause;
 use rule_nodes::{Nodes, PartRow};
 
 // Whether a part is a not-tuple of a relation from number `first` on.
@@ -41,13 +42,11 @@ fn some_refuses(t: Nodes, at: usize, many: usize, first: usize) -> bool
     requires { Fits t × (at + many ≤ 64) }
     ensures { result ≡ any (part_at first t at) (below many) }
 {
-    let mut i: usize = 0;
-    while i < many {
+    for i in 0..many {
         let q = t.parts[at + i];
         if part_refuses(q, first) {
             return true;
         }
-        i += 1;
     }
     false
 }
@@ -61,15 +60,13 @@ fn tree_refuses(t: Nodes, first: usize) -> bool
     if part_refuses(root, first) {
         return true;
     }
-    let mut v: usize = 0;
-    while v < t.count {
+    for v in 0..t.count {
         let x = t.rows[v];
         let at = rule_nodes::wide(x.first);
         let many = rule_nodes::wide(x.many);
         if some_refuses(t, at, many, first) {
             return true;
         }
-        v += 1;
     }
     false
 }
@@ -79,12 +76,10 @@ fn some_function(g: Relations, first: usize, count: usize) -> bool
     requires { RelationsFit g × (first + count ≤ 18) }
     ensures { result ≡ any (kind_at g.kind first) (below count) }
 {
-    let mut i: usize = 0;
-    while i < count {
+    for i in 0..count {
         if 1 < g.kind[first + i] {
             return true;
         }
-        i += 1;
     }
     false
 }
@@ -92,7 +87,7 @@ fn some_function(g: Relations, first: usize, count: usize) -> bool
 // Of a case that was read: 11, 23, 24, which any case with an `every` line is, 21, then yes.
 fn monotone_case(question: &[u8], o: Opened, facts: &[u64], all: &[u64]) -> Reply
     requires { AcceptedIn question.now o (bit facts.now) }
-    ensures { (site : List ℕ) → CaseRead question.now (read_case usual question.now site) o (bit facts.now) → o.fault ≡ 0
+    ensures { (site : List ℕ) → CaseRead question.now (read_case usual question.now site) (Ok o) (bit facts.now)
         → ((c : Case) → «Accepted_case» c → Holds question.now c o (bit facts.now) → PicksAre (problem_of c) all.now (cells (problem_of c)))
         → result_of result ≡ «monotone_of» usual question.now site }
 {
@@ -105,26 +100,23 @@ fn monotone_case(question: &[u8], o: Opened, facts: &[u64], all: &[u64]) -> Repl
     let g = problem_of_case::relations_of(sig);
     let t = rule_rewrite::nodes_of(question, rule.from, rule.to, sig);
     let m = problem_sizes::of_tables(n, ranges, g, t);
-    let k = problem_sizes::refusal(m, open_case::usual_limits());
-    if k != 0 {
-        return Reply::Refused(k, 0);
-    }
+    problem_of_case::within(m, open_case::usual_limits())?;
     if m.every {
-        return Reply::Refused(24, 0);
+        return Err(Cause::NotMonotone.at(0));
     }
     let first = 5 + sig.rels;
     if some_function(g, first, sig.chosen) {
-        return Reply::Refused(24, 0);
+        return Err(Cause::NotMonotone.at(0));
     }
     if tree_refuses(t, first) {
-        return Reply::Refused(24, 0);
+        return Err(Cause::NotMonotone.at(0));
     }
     let mut lines = [0usize; eval_rule::LINES];
     eval_table::fill(&mut lines, n, types, &members, ranges, g, t, 0);
     if eval_table::rule_is_true(&lines, facts, all, n) {
-        return Reply::Accepted(0);
+        return Ok(0);
     }
-    Reply::Refused(21, 0)
+    Err(Cause::NoPicks.at(0))
 }
 
 // The words for the facts are lent.
@@ -132,10 +124,8 @@ fn monotone_in(question: &[u8], site: &[u8], facts: &mut [u64]) -> Reply
     requires { FactsRoom site.now 64 (length facts.old) × (bit facts.old ≡ λ i. false) }
     ensures { result_of result ≡ «monotone_of» usual question.now site.now }
 {
-    let o = read_sheets::read_case(question, site, open_case::ELEMENTS, facts);
-    if o.fault != 0 {
-        return Reply::Refused(o.fault, o.place);
-    }
+    let o = read_sheets::read_case(question, site, open_case::ELEMENTS, facts)?;
+    // not lent by `open_room`: these words are full, and those are clear
     if o.n <= open_case::SMALL_SIZE {
         let few = [eval_valuations::FULL; open_case::FEW_PICKS];
         return monotone_case(question, o, facts, &few);
@@ -148,10 +138,7 @@ fn monotone_in(question: &[u8], site: &[u8], facts: &mut [u64]) -> Reply
 pub fn monotone(question: &[u8], site: &[u8]) -> Reply
     ensures { result_of result ≡ «monotone_of» usual question.now site.now }
 {
-    if open_case::is_small(site) {
-        let mut few = [0u64; open_case::FEW];
-        return monotone_in(question, site, &mut few);
-    }
-    let mut facts = [0u64; open_case::FACTS];
-    monotone_in(question, site, &mut facts)
+    open_room::with_facts(site, |facts: &mut [u64]| {
+        monotone_in(question, site, facts)
+    })
 }

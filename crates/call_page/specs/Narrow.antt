@@ -1,5 +1,5 @@
 -- Where no element is printed by more than two bytes, every step has one line, and a page's first line is that of its step. Assumes nothing.
-use Rattle.std.specs.Prelude.{ℕ, zero, suc, ◌+◌, ◌-◌, ◌*◌, ◌^◌, ◌≤◌, ◌<◌, ◌≡◌, refl, Bool, true, false, T, ltb, get_or, if◌then◌else◌}
+use Rattle.std.specs.Prelude.{ℕ, zero, suc, ◌+◌, ◌-◌, ◌*◌, ◌≤◌, ◌<◌, ◌≡◌, refl, Bool, true, false, T, ltb, get_or}
 use Rattle.std.proofs.Common.{sym, subst, ◌∙◌, ⊎_elim, add-one, ltb→lt, ltb-true, ltb-false, le-leb}
 use Rattle.std.proofs.Math.Path.{ap}
 use Rattle.std.proofs.Math.Option.{some}

@@ -1,12 +1,12 @@
 -- What laying out a page of steps answers and leaves: of a problem, and of the texts. Assumes nothing.
 use Prim.Native.Nat.{ℕ, zero, suc, ◌+◌, ◌-◌, ◌*◌, ◌/◌, ◌^◌, ◌≤◌, ◌<◌}
-use Rattle.std.specs.Prelude.{◌≡◌, ◌⊎◌, Bool, ◌&&◌, get_or}
+use Rattle.std.specs.Prelude.{◌≡◌, ◌⊎◌, Bool, ◌&&◌, get_or, Ok, Err}
 use Rattle.std.proofs.Math.Path.{refl, sym, ap₂}
 use Rattle.std.proofs.Common.{ap, subst, ◌∙◌, inl, inr}
 use Rattle.std.proofs.Math.Logic.{⊎_elim}
 use Rattle.std.proofs.Math.Bool.{true, false}
 use Rattle.std.proofs.Math.Option.{some}
-use mathlib.Core.List.{List, ◌++◌}
+use mathlib.Core.List.{List, [], ◌++◌}
 use native.Mathlib.Omega.{arith}
 use Rattle.std.proofs.Math.Dec.{leb}
 use Rattle.std.proofs.Math.ListN.{length, drop}
@@ -19,7 +19,7 @@ use Rattle.definitions.specs.Sheet.Sheets.{Label}
 use Rattle.definitions.specs.Problem.Atoms.{Problem, problem_of, atoms, state_words, words_for}
 use Rattle.definitions.specs.Problem.Actions.{Action, action_at}
 use Rattle.definitions.specs.Problem.Strips.{run}
-use Rattle.definitions.specs.Reply.Outcome.{ThirdInput, take_steps, CaseRead, read_filed, Ready, ready_to_run, room_for, state_length, written}
+use Rattle.definitions.specs.Reply.Outcome.{ThirdInput, take_steps, read_filed, Ready, ready_to_run, room_for, state_length, written}
 use Rattle.definitions.specs.Reply.Desk.{said}
 use Rattle.definitions.specs.Reply.Page.{lines_of, pages, page_text, page_of, laid, page_if_laid, paged_from, page_rooms, lay_page}
 use Rattle.laws.specs.Asked as Order
@@ -51,11 +51,13 @@ use Rattle.print_page.specs.Bodies.{Before, Finds}
 use Rattle.print_page.specs.Naming.{Named, names_are}
 use Rattle.call_page.specs.Narrow.{Taken, OneEach, Narrow, all_taken, one_each, two_bytes, jumps_here, jumps_past}
 use Rattle.open_case.specs.declared.Front.{Front}
-use Rattle.open_case.specs.declared.Reply.{Reply}
-use Rattle.open_case.specs.declared.Reply.TheVariants.{Accepted as Fine, Refused}
-use Rattle.open_case.specs.Fronts.{Held, Filed, front_refused, filed_alone, filed_held}
+use Rattle.refusal.specs.declared.Refusal.{Refusal}
+use Rattle.refusal.specs.declared.Cause.TheVariants.{NoAction, ShortBuffer}
+use Rattle.refusal.specs.Numbers.{number_of}
+use Rattle.problem_of_case.specs.declared.Sized.{Sized}
+use Rattle.open_case.specs.Fronts.{Filed, filed_alone}
 use Rattle.open_case.specs.Known.{facts_held, case_over, grounds, tabled, table_is, atoms_few, words_are, words_fit, room_short, room_there}
-use Rattle.open_case.specs.Replies.{result_of}
+use Rattle.open_case.specs.Replies.{Reply, result_of}
 
 -- what a page is printed by: the signature that has the names, the labels and the table
 pub record Printable (question site labels table : List ℕ) (g : Signature) : Type 0 where
@@ -91,12 +93,12 @@ module _ (lines : List (List ℕ)) (m : ℕ) where
   unfolding page_of is_between refuse_if ◌>>=◌
   a_text a b = rw (le-leb 1 m a, le-leb m (pages lines) b) refl
 
-  no_page : (m < 1) ⊎ (pages lines < m) → (old : List ℕ) → PageLaid lines m old (Refused 13 m) old
-  unfolding page_if_laid result_of ◌>>=◌
+  no_page : (m < 1) ⊎ (pages lines < m) → (old : List ℕ) → PageLaid lines m old (Err (record { cause = NoAction; place = m })) old
+  unfolding page_if_laid ◌>>=◌
   no_page h old = let e = no_text h in (rw e refl, rw e refl)
 
-  a_page : 1 ≤ m → m ≤ pages lines → (bytes : ℕ) (old new : List ℕ) → bytes ≡ length (page_text lines (m - 1)) → new ≡ written (page_text lines (m - 1)) old → PageLaid lines m old (Fine bytes) new
-  unfolding page_if_laid result_of ◌>>=◌
+  a_page : 1 ≤ m → m ≤ pages lines → (bytes : ℕ) (old new : List ℕ) → bytes ≡ length (page_text lines (m - 1)) → new ≡ written (page_text lines (m - 1)) old → PageLaid lines m old (Ok bytes) new
+  unfolding page_if_laid ◌>>=◌
   a_page a b bytes old new q w = let e = a_text a b in (rw e (ap accepted q), rw e w)
 
   -- a page is there exactly if the line is that would be its first
@@ -122,6 +124,14 @@ module _ (site labels names table steps : List ℕ) (first : ℕ) where
   unfolding FoundBy
   found_past N h p ls q is named says one = jumps_past ls p steps (one N) first h
 
+  -- where every step has one line, the least of the two
+  pub found_least : Narrow labels (size_in table) → (i : ℕ) → (first < length steps → i ≡ first) → (length steps ≤ first → i ≡ length steps) → FoundBy site labels names table steps first i i
+  found_least N i low high = by_test (leb (length steps) first) refl
+    where
+      by_test : (b : Bool) → leb (length steps) first ≡ b → FoundBy site labels names table steps first i i
+      by_test true q = let h = leb-true (length steps) first q in subst (λ (k : ℕ). FoundBy site labels names table steps first k k) (sym (high h)) (found_past N h)
+      by_test false q = let h = leb-false (length steps) first q in subst (λ (k : ℕ). FoundBy site labels names table steps first k k) (sym (low h)) (found_here N h)
+
   pub found_after : (index line : ℕ) → ((p : Problem) (ls : List Label) (q : List ℕ) → Is p table → NamesAre p q names → said_by site labels ≡ said ls → Finds ls p steps first index line) → FoundBy site labels names table steps first index line
   unfolding FoundBy
   found_after index line find p ls q is named says one = find p ls q is named says
@@ -131,11 +141,11 @@ unfoldable pub PageOf : (question site labels table : List ℕ) (g : Signature) 
 PageOf question site labels table g steps m old r new = (p : Problem) (ls : List Label) → Printable question site labels table g → Paper question site labels table g steps p ls → Taken p steps → PageLaid (lines_of ls p steps) m old r new
 
 module _ (question site labels table : List ℕ) (g : Signature) (steps : List ℕ) (m : ℕ) (old : List ℕ) where
-  pub page_zero : m ≡ 0 → PageOf question site labels table g steps m old (Refused 13 m) old
+  pub page_zero : m ≡ 0 → PageOf question site labels table g steps m old (Err (record { cause = NoAction; place = m })) old
   unfolding PageOf
   page_zero z p ls W P t = no_page (lines_of ls p steps) m (inl (omega arith)) old
 
-  pub page_beyond : 1000000 < m → PageOf question site labels table g steps m old (Refused 13 m) old
+  pub page_beyond : 1000000 < m → PageOf question site labels table g steps m old (Err (record { cause = NoAction; place = m })) old
   unfolding PageOf
   page_beyond h p ls W P t = no_page (lines_of ls p steps) m (inr (omega (arith, P.few_pages))) old
 
@@ -147,14 +157,14 @@ module _ (question site labels table : List ℕ) (g : Signature) (steps : List �
         find p ls question P.is (P.named names N) P.says
         (λ narrow. one_each p P.good ls (subst (λ (n : ℕ). (x : ℕ) → x < n → length (said ls x) ≤ 2) P.is.size (two_bytes site labels (size_in table) ls W.short (subst (λ (n : ℕ). n ≤ 64) (sym P.is.size) P.few_elements) narrow P.says)) P.shown steps t)
 
-    pub page_missing : length steps ≤ index → PageOf question site labels table g steps m old (Refused 13 m) old
+    pub page_missing : length steps ≤ index → PageOf question site labels table g steps m old (Err (record { cause = NoAction; place = m })) old
     unfolding PageOf
     page_missing l p ls W P t = let e = (found p ls W P t).not_there l in no_page (lines_of ls p steps) m (inr (past_pages (lines_of ls p steps) m h (omega arith))) old
 
     pub page_found : index < length steps → line ≤ first → (skip bytes : ℕ) (new : List ℕ) → skip ≡ first - line
         → ((p : Problem) (ls : List Label) → Is p table → NamesAre p question names → said_by site labels ≡ said ls → ((j : ℕ) (a : Action) → action_at p j ≡ some a → Shown ls p j a) → length steps ≤ 10 ^ 7 → skip ≤ length (lines_at ls p index (get_or steps index 0))
         → (line k : ℕ) → Before ls p steps index line → line + skip ≡ 59 * k → m ≡ suc k → suc k < 10 ^ 6 → (bytes ≡ 4380) × (new ≡ written (page_text (lines_of ls p steps) k) old))
-        → PageOf question site labels table g steps m old (Fine bytes) new
+        → PageOf question site labels table g steps m old (Ok bytes) new
     unfolding PageOf
     page_found l low skip bytes new s print p ls W P t =
         let F = found p ls W P t in
@@ -186,11 +196,11 @@ module _ (question site labels table : List ℕ) (g : Signature) (facts steps : 
       let (b, w) = page p ls W P (all_taken p P.good steps i (sym a)) in
       record { answer = rw (sym a) b; state_is = ran.state; page_is = rw (sym a) w }
 
-  pub after_refused : (k i : ℕ) → ended e ≡ refused k i → PageAfter question site labels table g facts steps m state old (Refused k i) newState old
-  unfolding PageAfter Runs result_of page_if_laid ◌>>=◌
-  after_refused k i q p ls W P ends F l =
+  pub after_refused : (x : Refusal) → ended e ≡ refused (number_of x.cause) x.place → PageAfter question site labels table g facts steps m state old (Err x) newState old
+  unfolding PageAfter Runs page_if_laid ◌>>=◌
+  after_refused x q p ls W P ends F l =
       let ran = runs p P.is ends F l in
-      let a : refused k i ≡ (run p steps).answer = sym q ∙ ran.answer in
+      let a : refused (number_of x.cause) x.place ≡ (run p steps).answer = sym q ∙ ran.answer in
       record { answer = rw (sym a) refl; state_is = ran.state; page_is = rw (sym a) refl }
 
 -- ---- of the texts
@@ -215,7 +225,7 @@ labels_short site labels n ls L x = by_test (leb 64 x) refl
     by_test true q = omega (arith, L.past x (leb-true 64 x q))
     by_test false q = low (leb-false 64 x q) (get_or labels (2 * x + 1) 0) refl
 
-module _ (question site : List ℕ) (f : Front) (labels facts table : List ℕ) (filed : Filed usual question site f labels facts table) where
+module _ (question site : List ℕ) where
   -- refused before anything is written
   module _ (given : ThirdInput) (m : ℕ) (state page : List ℕ) where
     abbrev call : Result (Ready (List ℕ))
@@ -224,43 +234,40 @@ module _ (question site : List ℕ) (f : Front) (labels facts table : List ℕ) 
     abbrev Is_paged : Reply → List ℕ → List ℕ → Type 0
     Is_paged = Paged question site given m state page
 
-    refused_with : (k place : ℕ) → call ≡ refused k place → (r : Reply) → result_of r ≡ refused k place → Is_paged r state page
+    refused_with : (e : Refusal) → call ≡ refused (number_of e.cause) e.place → Is_paged (Err e) state page
     unfolding lay_page paged_from
-    refused_with k place e r q = (rw e q, (rw e refl, rw e refl))
+    refused_with e q = (rw q refl, (rw q refl, rw q refl))
 
-    pub call_case : (f.fault ≡ 0 → ⊥) → Is_paged (Refused f.fault f.place) state page
-    unfolding result_of ready_to_run
-    call_case z = refused_with f.fault f.place (Order.case_refused usual question site _ _ _ _ f.fault f.place (front_refused usual question site f facts table (filed_alone usual question site f labels facts table filed) z)) (Refused f.fault f.place) refl
+    pub call_case : (e : Refusal) → read_filed usual question site ≡ refused (number_of e.cause) e.place → Is_paged (Err e) state page
+    unfolding ready_to_run
+    call_case e h = refused_with e (Order.case_refused usual question site _ _ _ _ _ _ (filed_alone usual question site (Err e) [] [] [] h))
 
-  module _ (z : f.fault ≡ 0) where
-    abbrev its : (x : CaseRead) × (read_filed usual question site ≡ accepted x) × Held usual question x.case f facts table × LabelsAre site labels f.o.n x.labels
-    its = filed_held usual question site f labels facts table filed z
+  module _ (f : Front) (labels facts table : List ℕ) (its : Filed usual question site (Ok f) labels facts table) where
+    pub call_steps : (given : ThirdInput) (m : ℕ) (state page : List ℕ) (e : Refusal) → take_steps given ≡ refused (number_of e.cause) e.place → Paged question site given m state page (Err e) state page
+    unfolding ready_to_run
+    call_steps given m state page e t = let (x, i, h, l) = its in refused_with given m state page e (Order.third_refused usual question site _ _ _ _ x i _ _ t)
 
-    pub call_steps : (given : ThirdInput) (m : ℕ) (state page : List ℕ) (k place : ℕ) → take_steps given ≡ refused k place → Paged question site given m state page (Refused k place) state page
-    unfolding result_of ready_to_run
-    call_steps given m state page k place t = let (x, e, h, l) = its in refused_with given m state page k place (Order.third_refused usual question site _ _ _ _ x e k place t) (Refused k place) refl
+    pub call_over : (e : Refusal) → f.m ≡ Err e → (given : ThirdInput) (m : ℕ) (state page steps : List ℕ) → take_steps given ≡ accepted steps → Paged question site given m state page (Err e) state page
+    unfolding ready_to_run
+    call_over e o given m state page steps t =
+        let (x, i, h, l) = its in
+        refused_with given m state page e (Order.limits_refused usual question site _ _ _ _ x i steps t (Order.untested x.case) _ _ (case_over usual x.case f.m table h.grounded e o))
 
-    pub call_over : (f.m.refusal ≡ 0 → ⊥) → (given : ThirdInput) (m : ℕ) (state page steps : List ℕ) → take_steps given ≡ accepted steps → Paged question site given m state page (Refused f.m.refusal 0) state page
-    unfolding result_of ready_to_run
-    call_over o given m state page steps t =
-        let (x, e, h, l) = its in
-        refused_with given m state page _ _ (Order.limits_refused usual question site _ _ _ _ x e steps t (Order.untested x.case) _ _ (case_over usual x.case f.m table h.grounded o)) (Refused f.m.refusal 0) refl
-
-    module _ (o : f.m.refusal ≡ 0) where
+    module _ (sized : Sized) (o : f.m ≡ Ok sized) where
       abbrev p : Problem
       p = problem_of its.0.case
 
-      abbrev table_of_lem : Tabled p f.m table
-      table_of_lem = tabled usual its.0.case f.m table its.2.grounded o
+      abbrev table_of_lem : Tabled p sized table
+      table_of_lem = tabled usual its.0.case f.m table its.2.grounded sized o
 
-      pub few_atoms : f.m.atoms ≤ 1048576
-      few_atoms = atoms_few usual its.0.case f.m table its.2.grounded o
+      pub few_atoms : sized.atoms ≤ 1048576
+      few_atoms = atoms_few usual its.0.case f.m table its.2.grounded sized o
 
-      pub words_enough : (k : ℕ) → (f.m.atoms + 63) / 64 ≡ k → words_for (atoms_in table) ≤ k
-      words_enough k e = words_fit usual its.0.case f.m table its.2.grounded o k e
+      pub words_enough : (k : ℕ) → (sized.atoms + 63) / 64 ≡ k → words_for (atoms_in table) ≤ k
+      words_enough k e = words_fit usual its.0.case f.m table its.2.grounded sized o k e
 
-      words : (f.m.atoms + 63) / 64 ≡ state_length p
-      words = words_are usual its.0.case f.m table its.2.grounded o
+      words : (sized.atoms + 63) / 64 ≡ state_length p
+      words = words_are usual its.0.case f.m table its.2.grounded sized o
 
       pub printable : Printable question site labels table f.o.sig
       printable =
@@ -268,7 +275,7 @@ module _ (question site : List ℕ) (f : Front) (labels facts table : List ℕ) 
           let n : f.o.n ≡ size_in table = elements_are question x.case f.o (bit facts) h.holds ∙ sym table_of_lem.is.size in
           record {
             sound = h.holds.sound;
-            grounded = table_is usual x.case f.m table h.grounded o;
+            grounded = table_is usual x.case f.m table h.grounded sized o;
             short = record { spans = subst (Spans site labels) n (spans site labels f.o.n x.labels l h.holds.few_elements); short = labels_short site labels f.o.n x.labels l };
           }
 
@@ -280,27 +287,27 @@ module _ (question site : List ℕ) (f : Front) (labels facts table : List ℕ) 
         unfolding ready_to_run
         no_room k place j =
             let (x, e, h, l) = its in
-            Order.room_refused usual question site _ _ _ _ x e steps t (Order.untested x.case) p (grounds usual x.case f.m table h.grounded o) (Order.untested x.case) k place j
+            Order.room_refused usual question site _ _ _ _ x e steps t (Order.untested x.case) p (grounds usual x.case f.m table h.grounded sized o) (Order.untested x.case) k place j
 
         readied : page_rooms (length state) (length page) p ≡ accepted tt → ready_to_run usual question site given (page_rooms (length state) (length page)) ≡ accepted ready
         unfolding ready_to_run
         readied j =
             let (x, e, h, l) = its in
-            Order.ready usual question site _ _ _ _ x e steps t (Order.untested x.case) p (grounds usual x.case f.m table h.grounded o) (Order.untested x.case) j
+            Order.ready usual question site _ _ _ _ x e steps t (Order.untested x.case) p (grounds usual x.case f.m table h.grounded sized o) (Order.untested x.case) j
 
-        pub call_few_words : length state < (f.m.atoms + 63) / 64 → Paged question site given m state page (Refused 12 ((f.m.atoms + 63) / 64)) state page
-        unfolding page_rooms result_of ◌>>=◌
+        pub call_few_words : length state < (sized.atoms + 63) / 64 → Paged question site given m state page (Err (record { cause = ShortBuffer; place = (sized.atoms + 63) / 64 })) state page
+        unfolding page_rooms ◌>>=◌
         call_few_words s =
             let b = room_short (state_length p) (length state) (subst (λ (k : ℕ). length state < k) words s) in
-            refused_with given m state page 12 (state_length p) (no_room 12 (state_length p) (rw b refl)) (Refused 12 ((f.m.atoms + 63) / 64)) (ap (refused 12) words)
+            refused_with given m state page (record { cause = ShortBuffer; place = (sized.atoms + 63) / 64 }) (no_room 12 (state_length p) (rw b refl) ∙ ap (refused 12) (sym words))
 
-        module _ (enough : (f.m.atoms + 63) / 64 ≤ length state) where
+        module _ (enough : (sized.atoms + 63) / 64 ≤ length state) where
           first_room : room_for (state_length p) (length state) ≡ accepted tt
           first_room = room_there (state_length p) (length state) (subst (λ (k : ℕ). k ≤ length state) words enough)
 
-          pub call_few_bytes : length page < 4380 → Paged question site given m state page (Refused 12 4380) state page
-          unfolding page_rooms result_of ◌>>=◌
-          call_few_bytes s = refused_with given m state page 12 4380 (no_room 12 4380 (rw first_room (room_short 4380 (length page) s))) (Refused 12 4380) refl
+          pub call_few_bytes : length page < 4380 → Paged question site given m state page (Err (record { cause = ShortBuffer; place = 4380 })) state page
+          unfolding page_rooms ◌>>=◌
+          call_few_bytes s = refused_with given m state page (record { cause = ShortBuffer; place = 4380 }) (no_room 12 4380 (rw first_room (room_short 4380 (length page) s)))
 
           module _ (bytes : 4380 ≤ length page) where
             is_ready : ready_to_run usual question site given (page_rooms (length state) (length page)) ≡ accepted ready
@@ -321,8 +328,8 @@ module _ (question site : List ℕ) (f : Front) (labels facts table : List ℕ) 
                   few_pages = ready_pages question site given (page_rooms (length state) (length page)) ready is_ready;
                 }
 
-            pub call_laid : (r : Reply) (part newPart newState newPage : List ℕ) → (f.m.atoms + 63) / 64 ≡ length part → PageAfter question site labels table f.o.sig facts steps m part page r newPart newPage
-                → newState ≡ newPart ++ drop ((f.m.atoms + 63) / 64) state → Paged question site given m state page r newState newPage
+            pub call_laid : (r : Reply) (part newPart newState newPage : List ℕ) → (sized.atoms + 63) / 64 ≡ length part → PageAfter question site labels table f.o.sig facts steps m part page r newPart newPage
+                → newState ≡ newPart ++ drop ((sized.atoms + 63) / 64) state → Paged question site given m state page r newState newPage
             unfolding PageAfter lay_page paged_from laid written
             call_laid r part newPart newState newPage len after n =
                 let (x, e, h, l) = its in

@@ -1,7 +1,7 @@
 // The proof on paper (document 02, job 9): one page of steps that were checked.
 #![tactic(auto)]
 
-ghost use Rattle.std.specs.Prelude.{◌≡◌, true, false, List, ℕ, ◌+◌, ◌^◌, ◌≤◌, ◌<◌, length};
+ghost use Rattle.std.specs.Prelude.{◌≡◌, true, false, List, ℕ, ◌+◌, ◌-◌, ◌*◌, ◌^◌, ◌≤◌, ◌<◌, length, get_or, Ok};
 ghost use Rattle.definitions.specs.Limits.{usual};
 ghost use Rattle.definitions.specs.Problem.Atoms.{words_for};
 ghost use Rattle.definitions.specs.Refusal.{accepted};
@@ -22,23 +22,31 @@ ghost use Rattle.call_page.specs.Pages.{Printable, FoundBy, PageOf, PageAfter, P
 use open_case::{Front, Reply};
 use print_page::Place;
 use read_names::Signature;
-use read_sheets::Answer;
+use refusal::Cause;
 
 // No steps have so many pages.
 const PAGES: usize = 1000000;
+
+// How long the label of element x is; 0 where it has none.
+fn label_length(labels: &[usize], x: usize) -> usize
+    requires { (2 * x + 1 < length labels.now) × (get_or labels.now (2 * x) 0 ≤ get_or labels.now (2 * x + 1) 0) }
+    ensures { result ≡ get_or labels.now (2 * x + 1) 0 - get_or labels.now (2 * x) 0 }
+{
+    match print_line::label(labels, x) {
+        Some(l) => l.to - l.from,
+        None => 0,
+    }
+}
 
 // Whether no element is printed by more than two bytes. Then every step has one line.
 fn is_narrow(labels: &[usize], n: usize) -> bool
     requires { (site : List ℕ) × Short site labels.now n }
     ensures { result ≡ true → Narrow labels.now n }
 {
-    let mut x: usize = 0;
-    while x < n {
-        let l = print_line::label(labels, x);
-        if 2 < l.to - l.from {
+    for x in 0..n {
+        if 2 < label_length(labels, x) {
             return false;
         }
-        x += 1;
     }
     true
 }
@@ -58,22 +66,13 @@ fn first_step(
         × FoundBy site.now labels.now names.now table.now steps.now first result.index result.line }
 {
     if is_narrow(labels, table[0]) {
-        if first < steps.len() {
-            return Place {
-                index: first,
-                line: first,
-            };
-        }
-        let all = steps.len();
-        return Place {
-            index: all,
-            line: all,
-        };
+        let index = first.min(steps.len());
+        return Place { index, line: index };
     }
     print_page::find(site, labels, names, table, steps, first)
 }
 
-// The page of a number, of steps that reach the goal: its bytes, or 13 where there is no such page. The pages before it are not laid out,
+// The page of a number, of steps that reach the goal: its bytes, or `NoAction` where there is no such page. The pages before it are not laid out,
 // and their lines are counted only where a step may have several.
 fn lay_page(
     sig: Signature,
@@ -90,10 +89,10 @@ fn lay_page(
     ensures { PageOf question.now site.now labels.now table.now sig steps.now page out.old result out.new }
 {
     if page == 0 {
-        return Reply::Refused(13, page);
+        return Err(Cause::NoAction.at(page));
     }
     if PAGES < page {
-        return Reply::Refused(13, page);
+        return Err(Cause::NoAction.at(page));
     }
     let mut names = [0usize; print_page::NAMES];
     print_page::names_of(sig, &mut names);
@@ -105,9 +104,9 @@ fn lay_page(
         let bytes = print_page::page(
             out, question, site, labels, &names, table, steps, index, skip, page,
         );
-        return Reply::Accepted(bytes);
+        return Ok(bytes);
     }
-    Reply::Refused(13, page)
+    Err(Cause::NoAction.at(page))
 }
 
 // Steps are run from the initial state on; where they reach the goal, the page is laid out.
@@ -128,14 +127,11 @@ fn run_and_lay(
     ensures { PageAfter question.now site.now labels.now table.now sig facts.now steps.now page state.old out.old result state.new out.new }
 {
     let e = step_run::start_and_run(table, facts, steps, state);
-    let r = open_case::reply_of(e);
-    match r {
-        Reply::Accepted(_) => lay_page(sig, question, site, labels, table, steps, page, out),
-        Reply::Refused(k, i) => Reply::Refused(k, i),
-    }
+    open_case::reply_of(e)?;
+    lay_page(sig, question, site, labels, table, steps, page, out)
 }
 
-// A page of steps of a case that was opened: 11, 12 for the state, 12 for the page, then the steps one by one and the page.
+// A page of steps of a case that was opened: too large, a short buffer for the state or for the page, then the steps one by one and the page.
 fn page_steps(
     f: Front,
     question: &[u8],
@@ -148,20 +144,17 @@ fn page_steps(
     state: &mut [u64],
     out: &mut [u8],
 ) -> Reply
-    requires { Filed usual question.now site.now f labels.now facts.now table.now × (f.fault ≡ 0) }
+    requires { Filed usual question.now site.now (Ok f) labels.now facts.now table.now }
     ensures { (given : ThirdInput) → take_steps given ≡ accepted steps.now
         → Paged question.now site.now given page state.old out.old result state.new out.new }
 {
-    let m = f.m;
-    if m.refusal != 0 {
-        return Reply::Refused(m.refusal, 0);
-    }
+    let m = f.m?;
     let words = (m.atoms + 63) / 64;
     if state.len() < words {
-        return Reply::Refused(12, words);
+        return Err(Cause::ShortBuffer.at(words));
     }
     if out.len() < print_page::PAGE {
-        return Reply::Refused(12, print_page::PAGE);
+        return Err(Cause::ShortBuffer.at(print_page::PAGE));
     }
     let o = f.o;
     let sig = o.sig;
@@ -193,26 +186,23 @@ fn page_listed(
     state: &mut [u64],
     out: &mut [u8],
 ) -> Reply
-    requires filed { Filed usual question.now site.now f labels.now facts.now table.now × (f.fault ≡ 0) }
+    requires filed { Filed usual question.now site.now (Ok f) labels.now facts.now table.now }
     requires room_for { RoomFor steps.now (length list.old) }
     ensures { Paged question.now site.now (as_text steps.now) page state.old out.old result state.new out.new }
 {
-    let a = read_sheets::steps(steps, list);
-    match a {
-        Answer::Refused(k, place) => Reply::Refused(k, place),
-        Answer::Done(count) => page_steps(
-            f,
-            question,
-            site,
-            labels,
-            facts,
-            table,
-            &list[..count],
-            page,
-            state,
-            out,
-        ),
-    }
+    let count = read_sheets::steps(steps, list)?;
+    page_steps(
+        f,
+        question,
+        site,
+        labels,
+        facts,
+        table,
+        &list[..count],
+        page,
+        state,
+        out,
+    )
 }
 
 // A page of steps as a text; the words for the facts and the list for the steps are lent.
@@ -232,10 +222,7 @@ fn page_text_with(
 {
     let mut labels = [0usize; read_sheets::LABELS];
     let mut table = [0usize; problem_table::TABLE];
-    let f = open_case::open_usual(question, site, &mut labels, facts, &mut table);
-    if f.fault != 0 {
-        return Reply::Refused(f.fault, f.place);
-    }
+    let f = open_case::open_usual(question, site, &mut labels, facts, &mut table)?;
     page_listed(
         f, question, site, &labels, facts, &table, steps, list, page, state, out,
     )
@@ -254,32 +241,14 @@ fn page_text_in(
     requires { FactsRoom site.now 64 (length facts.old) × (bit facts.old ≡ λ i. false) }
     ensures { Paged question.now site.now (as_text steps.now) page state.old out.old result state.new out.new }
 {
-    if steps.len() <= read_sheets::LONG {
-        let mut many = [0u32; read_sheets::MANY];
-        return page_text_with(question, site, steps, page, state, out, facts, &mut many);
-    }
-    let mut list = [0u32; read_sheets::STEPS];
-    page_text_with(question, site, steps, page, state, out, facts, &mut list)
-}
-
-// The same for a site that is not small or a text that is not short. The long arrays stand here and not in the call, so that a small
-// case makes no room for them.
-fn page_text_wide(
-    question: &[u8],
-    site: &[u8],
-    steps: &[u8],
-    page: usize,
-    state: &mut [u64],
-    out: &mut [u8],
-) -> Reply
-    ensures { Paged question.now site.now (as_text steps.now) page state.old out.old result state.new out.new }
-{
-    if open_case::is_small(site) {
-        let mut few = [0u64; open_case::FEW];
-        return page_text_in(question, site, steps, page, state, out, &mut few);
-    }
-    let mut facts = [0u64; open_case::FACTS];
-    page_text_in(question, site, steps, page, state, out, &mut facts)
+    open_room::with_list_into_both(
+        steps,
+        state,
+        out,
+        |list: &mut [u32], state: &mut [u64], out: &mut [u8]| {
+            page_text_with(question, site, steps, page, state, out, facts, list)
+        },
+    )
 }
 
 // Lays out a page of steps that are handed over as a text.
@@ -295,15 +264,14 @@ pub fn page_text(
     ensures state { state.new ≡ (lay_page usual question.now site.now (as_text steps.now) page state.old out.old).state }
     ensures page { out.new ≡ (lay_page usual question.now site.now (as_text steps.now) page state.old out.old).page }
 {
-    if steps.len() <= read_sheets::SHORT {
-        if open_case::is_small(site) {
-            let mut few = [0u64; open_case::FEW];
-            let mut list = [0u32; read_sheets::FEW];
-            return page_text_with(question, site, steps, page, state, out, &mut few, &mut list);
-        }
-        return page_text_wide(question, site, steps, page, state, out);
-    }
-    page_text_wide(question, site, steps, page, state, out)
+    open_room::with_facts_into_both(
+        site,
+        state,
+        out,
+        |facts: &mut [u64], state: &mut [u64], out: &mut [u8]| {
+            page_text_in(question, site, steps, page, state, out, facts)
+        },
+    )
 }
 
 // A page of lent steps; the words for the facts are lent.
@@ -321,12 +289,9 @@ fn page_lent_in(
 {
     let mut labels = [0usize; read_sheets::LABELS];
     let mut table = [0usize; problem_table::TABLE];
-    let f = open_case::open_usual(question, site, &mut labels, facts, &mut table);
-    if f.fault != 0 {
-        return Reply::Refused(f.fault, f.place);
-    }
+    let f = open_case::open_usual(question, site, &mut labels, facts, &mut table)?;
     if open_case::STEPS < steps.len() {
-        return Reply::Refused(1, 0);
+        return Err(Cause::TooLong.at(0));
     }
     page_steps(
         f, question, site, &labels, facts, &table, steps, page, state, out,
@@ -346,10 +311,12 @@ pub fn page_lent(
     ensures state { state.new ≡ (lay_page usual question.now site.now (as_numbers steps.now) page state.old out.old).state }
     ensures page { out.new ≡ (lay_page usual question.now site.now (as_numbers steps.now) page state.old out.old).page }
 {
-    if open_case::is_small(site) {
-        let mut few = [0u64; open_case::FEW];
-        return page_lent_in(question, site, steps, page, state, out, &mut few);
-    }
-    let mut facts = [0u64; open_case::FACTS];
-    page_lent_in(question, site, steps, page, state, out, &mut facts)
+    open_room::with_facts_into_both(
+        site,
+        state,
+        out,
+        |facts: &mut [u64], state: &mut [u64], out: &mut [u8]| {
+            page_lent_in(question, site, steps, page, state, out, facts)
+        },
+    )
 }

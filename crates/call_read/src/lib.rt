@@ -15,7 +15,7 @@ ghost use Rattle.step_picks.specs.Copies.{picks_in};
 ghost use Rattle.call_read.specs.Reads.{ReadBy, Reads, ReadsGiven, PicksRead};
 
 use open_case::{Front, Reply};
-use read_sheets::Answer;
+use refusal::Cause;
 
 // Steps are run from the initial state on; where they reach the goal, their picks are written.
 fn run_and_copy(
@@ -30,15 +30,10 @@ fn run_and_copy(
     requires table_in_bounds_2 { picks_in table.now ≤ length picks.old }
     ensures { ReadBy table.now facts.now steps.now picks.old state.old result picks.new state.new }
 {
-    let e = step_run::start_and_run(table, facts, steps, state);
-    let r = open_case::reply_of(e);
-    match r {
-        Reply::Accepted(i) => {
-            step_picks::copy_picks(table, state, picks);
-            Reply::Accepted(i)
-        }
-        Reply::Refused(k, i) => Reply::Refused(k, i),
-    }
+    let ended = step_run::start_and_run(table, facts, steps, state);
+    let i = open_case::reply_of(ended)?;
+    step_picks::copy_picks(table, state, picks);
+    Ok(i)
 }
 
 // Steps of a case that was opened: 11, 12 for the picks, 12 for the state, then the steps one by one.
@@ -53,17 +48,14 @@ fn read_steps(
     requires { (q : List ℕ) × ReadyFront q f facts.now table.now }
     ensures { Reads f facts.now table.now steps.now picks.old state.old result picks.new state.new }
 {
-    let m = f.m;
-    if m.refusal != 0 {
-        return Reply::Refused(m.refusal, 0);
-    }
+    let m = f.m?;
     let needed = step_picks::picks_length(table);
     if picks.len() < needed {
-        return Reply::Refused(12, needed);
+        return Err(Cause::ShortBuffer.at(needed));
     }
     let words = (m.atoms + 63) / 64;
     if state.len() < words {
-        return Reply::Refused(12, words);
+        return Err(Cause::ShortBuffer.at(words));
     }
     run_and_copy(table, facts, steps, picks, &mut state[..words])
 }
@@ -82,11 +74,8 @@ fn read_listed(
     requires room_for { RoomFor steps.now (length list.old) }
     ensures { ReadsGiven f facts.now table.now (as_text steps.now) picks.old state.old result picks.new state.new }
 {
-    let a = read_sheets::steps(steps, list);
-    match a {
-        Answer::Refused(k, place) => Reply::Refused(k, place),
-        Answer::Done(count) => read_steps(f, facts, table, &list[..count], picks, state),
-    }
+    let count = read_sheets::steps(steps, list)?;
+    read_steps(f, facts, table, &list[..count], picks, state)
 }
 
 // Picks from steps as a text; the words for the facts and the list for the steps are lent.
@@ -104,10 +93,7 @@ fn picks_text_with(
     ensures { PicksRead usual question.now site.now (as_text steps.now) picks.old state.old result picks.new state.new }
 {
     let mut table = [0usize; problem_table::TABLE];
-    let f = open_case::open_case(question, site, facts, &mut table);
-    if f.fault != 0 {
-        return Reply::Refused(f.fault, f.place);
-    }
+    let f = open_case::open_case(question, site, facts, &mut table)?;
     read_listed(f, facts, &table, steps, list, picks, state)
 }
 
@@ -123,31 +109,14 @@ fn picks_text_in(
     requires { FactsRoom site.now 64 (length facts.old) × (bit facts.old ≡ λ i. false) }
     ensures { PicksRead usual question.now site.now (as_text steps.now) picks.old state.old result picks.new state.new }
 {
-    if steps.len() <= read_sheets::LONG {
-        let mut many = [0u32; read_sheets::MANY];
-        return picks_text_with(question, site, steps, picks, state, facts, &mut many);
-    }
-    let mut list = [0u32; read_sheets::STEPS];
-    picks_text_with(question, site, steps, picks, state, facts, &mut list)
-}
-
-// The same for a site that is not small or a text that is not short. The long arrays stand here and not in the call, so that a small
-// case makes no room for them.
-fn picks_text_wide(
-    question: &[u8],
-    site: &[u8],
-    steps: &[u8],
-    picks: &mut [u64],
-    state: &mut [u64],
-) -> Reply
-    ensures { PicksRead usual question.now site.now (as_text steps.now) picks.old state.old result picks.new state.new }
-{
-    if open_case::is_small(site) {
-        let mut few = [0u64; open_case::FEW];
-        return picks_text_in(question, site, steps, picks, state, &mut few);
-    }
-    let mut facts = [0u64; open_case::FACTS];
-    picks_text_in(question, site, steps, picks, state, &mut facts)
+    open_room::with_list_into_both(
+        steps,
+        picks,
+        state,
+        |list: &mut [u32], picks: &mut [u64], state: &mut [u64]| {
+            picks_text_with(question, site, steps, picks, state, facts, list)
+        },
+    )
 }
 
 // Reads picks from steps that are handed over as a text.
@@ -162,15 +131,14 @@ pub fn picks_text(
     ensures picks { picks.new ≡ (picks_from_steps usual question.now site.now (as_text steps.now) picks.old state.old).picks }
     ensures state { state.new ≡ (picks_from_steps usual question.now site.now (as_text steps.now) picks.old state.old).state }
 {
-    if steps.len() <= read_sheets::SHORT {
-        if open_case::is_small(site) {
-            let mut few = [0u64; open_case::FEW];
-            let mut list = [0u32; read_sheets::FEW];
-            return picks_text_with(question, site, steps, picks, state, &mut few, &mut list);
-        }
-        return picks_text_wide(question, site, steps, picks, state);
-    }
-    picks_text_wide(question, site, steps, picks, state)
+    open_room::with_facts_into_both(
+        site,
+        picks,
+        state,
+        |facts: &mut [u64], picks: &mut [u64], state: &mut [u64]| {
+            picks_text_in(question, site, steps, picks, state, facts)
+        },
+    )
 }
 
 // Picks from lent steps; the words for the facts are lent.
@@ -186,12 +154,9 @@ fn picks_lent_in(
     ensures { PicksRead usual question.now site.now (as_numbers steps.now) picks.old state.old result picks.new state.new }
 {
     let mut table = [0usize; problem_table::TABLE];
-    let f = open_case::open_case(question, site, facts, &mut table);
-    if f.fault != 0 {
-        return Reply::Refused(f.fault, f.place);
-    }
+    let f = open_case::open_case(question, site, facts, &mut table)?;
     if open_case::STEPS < steps.len() {
-        return Reply::Refused(1, 0);
+        return Err(Cause::TooLong.at(0));
     }
     read_steps(f, facts, &table, steps, picks, state)
 }
@@ -208,10 +173,12 @@ pub fn picks_lent(
     ensures picks { picks.new ≡ (picks_from_steps usual question.now site.now (as_numbers steps.now) picks.old state.old).picks }
     ensures state { state.new ≡ (picks_from_steps usual question.now site.now (as_numbers steps.now) picks.old state.old).state }
 {
-    if open_case::is_small(site) {
-        let mut few = [0u64; open_case::FEW];
-        return picks_lent_in(question, site, steps, picks, state, &mut few);
-    }
-    let mut facts = [0u64; open_case::FACTS];
-    picks_lent_in(question, site, steps, picks, state, &mut facts)
+    open_room::with_facts_into_both(
+        site,
+        picks,
+        state,
+        |facts: &mut [u64], picks: &mut [u64], state: &mut [u64]| {
+            picks_lent_in(question, site, steps, picks, state, facts)
+        },
+    )
 }

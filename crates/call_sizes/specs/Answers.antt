@@ -1,9 +1,10 @@
 -- Sizes as the definitions' answer.
-use Rattle.definitions.specs.Refusal.{Result, refused, accepted}
+use Rattle.std.specs.Prelude as P
+use Rattle.definitions.specs.Refusal.{Result}
 use Rattle.definitions.specs.Reply.Outcome
-use Rattle.call_sizes.specs.declared.Sizing.{Sizing}
-use Rattle.call_sizes.specs.declared.Sizing.TheVariants.{Sized, Refused as Unsized}
+use Rattle.refusal.specs.declared.Refusal.{Refusal}
+use Rattle.refusal.specs.Told.{told}
+use Rattle.call_sizes.specs.declared.Counts.{Counts}
 
-unfoldable pub sizing_of : Sizing → Result Outcome.Sizes
-sizing_of (Sized s) = accepted (record { elements = s.elements; atom_count = s.atoms; action_count = s.actions; step_bound = s.bound })
-sizing_of (Unsized k place) = refused k place
+abbrev pub sizing_of : P.Result Counts Refusal → Result Outcome.Sizes
+sizing_of r = told (λ (s : Counts). record { elements = s.elements; atom_count = s.atoms; action_count = s.actions; step_bound = s.bound }) r

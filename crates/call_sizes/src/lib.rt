@@ -19,6 +19,7 @@ ghost use Rattle.call_sizes.specs.Answers.{sizing_of};
 
 use problem_sizes::Tally;
 use read_sheets::Opened;
+use refusal::Refusal;
 
 // The tally of a case that was read.
 fn of_case(question: &[u8], o: Opened) -> Tally
@@ -35,35 +36,22 @@ fn of_case(question: &[u8], o: Opened) -> Tally
     problem_sizes::of_tables(n, ranges, g, t)
 }
 
-#[derive(Clone, Copy)]
-pub enum Tallied {
-    Counted(Tally),
-    Refused(u32, usize),
-}
-
 // The tally of a question and a site, with the lent words for the site's facts.
-fn tally_in(question: &[u8], site: &[u8], facts: &mut [u64]) -> Tallied
+fn tally_in(question: &[u8], site: &[u8], facts: &mut [u64]) -> Result<Tally, Refusal>
     requires { FactsRoom site.now 64 (length facts.old) × (bit facts.old ≡ λ i. false) }
     ensures { tallied_of result ≡ «tally_of» usual question.now site.now }
 {
-    let o = read_sheets::read_case(question, site, open_case::ELEMENTS, facts);
-    if o.fault != 0 {
-        return Tallied::Refused(o.fault, o.place);
-    }
-    let t = of_case(question, o);
-    Tallied::Counted(t)
+    let o = read_sheets::read_case(question, site, open_case::ELEMENTS, facts)?;
+    Ok(of_case(question, o))
 }
 
 // The tally of a question and a site.
-pub fn tally(question: &[u8], site: &[u8]) -> Tallied
+pub fn tally(question: &[u8], site: &[u8]) -> Result<Tally, Refusal>
     ensures { tallied_of result ≡ «tally_of» usual question.now site.now }
 {
-    if open_case::is_small(site) {
-        let mut few = [0u64; open_case::FEW];
-        return tally_in(question, site, &mut few);
-    }
-    let mut facts = [0u64; open_case::FACTS];
-    tally_in(question, site, &mut facts)
+    open_room::with_facts(site, |facts: &mut [u64]| {
+        tally_in(question, site, facts)
+    })
 }
 
 // How many elements, atoms and actions a problem has, and the bound.
@@ -75,21 +63,12 @@ pub struct Counts {
     pub bound: usize,
 }
 
-#[derive(Clone, Copy)]
-pub enum Sizing {
-    Sized(Counts),
-    Refused(u32, usize),
-}
-
 // What was counted, unless it is more than the limits allow.
-fn limited(t: problem_sizes::Tally) -> Sizing
+fn limited(t: Tally) -> Result<Counts, Refusal>
     ensures { sizing_of result ≡ within usual (tally_in t) }
 {
-    let k = problem_sizes::refusal(t, open_case::usual_limits());
-    if k != 0 {
-        return Sizing::Refused(k, 0);
-    }
-    Sizing::Sized(Counts {
+    problem_of_case::within(t, open_case::usual_limits())?;
+    Ok(Counts {
         elements: t.elements,
         atoms: t.atoms,
         actions: t.actions,
@@ -98,12 +77,8 @@ fn limited(t: problem_sizes::Tally) -> Sizing
 }
 
 // The sizes of the numbered problem, by one walk of the tree.
-pub fn sizes(question: &[u8], site: &[u8]) -> Sizing
+pub fn sizes(question: &[u8], site: &[u8]) -> Result<Counts, Refusal>
     ensures { sizing_of result ≡ «sizes_of» usual question.now site.now }
 {
-    let a = tally(question, site);
-    match a {
-        Tallied::Refused(k, place) => Sizing::Refused(k, place),
-        Tallied::Counted(counted) => limited(counted),
-    }
+    limited(tally(question, site)?)
 }

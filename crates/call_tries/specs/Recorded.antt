@@ -5,7 +5,6 @@ use Rattle.definitions.specs.Refusal.{Result}
 use Rattle.definitions.specs.Reply.Outcome.{reply_number, reply_place}
 use Rattle.definitions.specs.Reply.Tries.{Try as Record}
 use Rattle.call_tries.specs.declared.Try.{Try}
-use Rattle.open_tries.specs.declared.Verdict.{Verdict}
 use Rattle.call_tries.specs.declared.CallReply.{CallReply}
 
 -- the records of a table
@@ -24,5 +23,5 @@ unfolding answer_of
 answer_told x r e = (ap (λ (a : CallReply). a.number) e, ap (λ (a : CallReply). a.place) e)
 
 -- a record with its reply; its list stays
-unfoldable pub answered : Try → Verdict → Try
-answered t v = record { first = t.first; length = t.length; number = v.number; place = v.place }
+unfoldable pub answered : Try → Result ℕ → Try
+answered t x = record { first = t.first; length = t.length; number = reply_number x; place = reply_place x }

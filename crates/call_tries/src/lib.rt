@@ -1,13 +1,16 @@
 // Many step lists for one case: each record of a lent table gets the number and the place that a check of its list alone would return.
 #![tactic(auto)]
 
-ghost use Rattle.std.specs.Prelude.{◌≡◌, ◌<◌, ◌≤◌, length as «length_of»};
+ghost use Rattle.std.specs.Prelude.{◌≡◌, map};
 ghost use Rattle.definitions.specs.Limits.{usual};
 ghost use Rattle.definitions.specs.Problem.Atoms.{Problem};
 ghost use Rattle.definitions.specs.Reply.Tries.{try_lists};
 ghost use Rattle.open_tries.specs.Begun.{ReadyToTry, Serves};
-ghost use Rattle.call_tries.specs.Recorded.{records, answer_of};
-ghost use Rattle.call_tries.specs.Each.{up_to, answer};
+ghost use Rattle.open_case.specs.Replies.{result_of};
+ghost use Rattle.call_tries.specs.Recorded.{records, answer_of, answered};
+ghost use Rattle.call_tries.specs.Each.{answer};
+
+use open_case::Reply;
 
 // A record, laid out as C lays it out: where its list begins among the lent steps, how many steps it has, and the reply to it.
 #[repr(C)]
@@ -26,25 +29,35 @@ pub struct CallReply {
     pub place: usize,
 }
 
-// The walk over the lent records: each of the first `many` is answered, and the others stay.
-fn try_each(
-    table: &[usize],
-    state: &[u64],
-    words: usize,
-    many: usize,
-    steps: &[u32],
-    tries: &mut [Try],
-)
-    requires { (many ≤ «length_of» tries.old) × (0 < many → ReadyToTry table.now state.now words) }
-    ensures { ((p : Problem) → Serves p table.now state.now words → tries.new ≡ up_to (answer p steps.now) many tries.old)
-        × (many ≡ 0 → tries.new ≡ tries.old) }
+// The record with the reply to its list.
+#[tactic(auto, unfolding(crate::specs::Recorded::answered, definitions::specs::Reply::Outcome::reply_number, definitions::specs::Reply::Outcome::reply_place))]
+fn answered(t: Try, r: Reply) -> Try
+    ensures { result ≡ answered t (result_of r) }
 {
-    let mut i: usize = 0;
-    while i < many {
-        let v = open_tries::try_list(table, state, words, steps, tries[i].first, tries[i].length);
-        tries[i].number = v.number;
-        tries[i].place = v.place;
-        i = i + 1;
+    match r {
+        Ok(count) => Try {
+            number: 0,
+            place: count as u64,
+            ..t
+        },
+        Err(e) => Try {
+            number: e.cause.number(),
+            place: e.place as u64,
+            ..t
+        },
+    }
+}
+
+// The walk over the lent records: each is answered.
+fn try_each(table: &[usize], state: &[u64], words: usize, steps: &[u32], tries: &mut [Try])
+    requires { ReadyToTry table.now state.now words }
+    ensures { (p : Problem) → Serves p table.now state.now words → tries.new ≡ map (answer p steps.now) tries.old }
+{
+    for t in tries.iter_mut() {
+        *t = answered(
+            *t,
+            open_tries::try_list(table, state, words, steps, t.first, t.length),
+        );
     }
 }
 
@@ -62,11 +75,17 @@ pub fn try_lists(
     ensures state_after { state.new ≡ (try_lists usual question.now site.now steps.now (records tries.old) state.old).state }
 {
     let mut table = [0usize; problem_table::TABLE];
-    let many = tries.len();
-    let c = open_tries::begin(question, site, many, &mut table, state);
-    try_each(&table, state, c.words, c.many, steps, tries);
-    CallReply {
-        number: c.number,
-        place: c.place,
+    match open_tries::begin(question, site, &mut table, state) {
+        Ok(words) => {
+            try_each(&table, state, words, steps, tries);
+            CallReply {
+                number: 0,
+                place: 0,
+            }
+        }
+        Err(e) => CallReply {
+            number: e.cause.number(),
+            place: e.place,
+        },
     }
 }

@@ -11,18 +11,14 @@ ghost use Rattle.read_sheets.specs.Opening.{CaseRead};
 ghost use Rattle.problem_of_case.specs.Grounds.{Read};
 ghost use Rattle.call_window.specs.Windows.{windowed_of};
 
+use problem_window::Window;
 use read_sheets::Opened;
-
-#[derive(Clone, Copy)]
-pub enum Windowed {
-    Window(usize, usize),
-    Refused(u32, usize),
-}
+use refusal::{Cause, Refusal};
 
 // Of a case that was read: 11, 23 of any case with an `every` line, then the two numbers.
-fn of_case(question: &[u8], o: Opened) -> Windowed
+fn of_case(question: &[u8], o: Opened) -> Result<Window, Refusal>
     requires { Read question.now o }
-    ensures { (site : List ℕ) (facts : ℕ → Bool) → CaseRead question.now (read_case usual question.now site) o facts → o.fault ≡ 0
+    ensures { (site : List ℕ) (facts : ℕ → Bool) → CaseRead question.now (read_case usual question.now site) (Ok o) facts
         → windowed_of result ≡ window_of usual question.now site }
 {
     let sig = o.sig;
@@ -33,37 +29,27 @@ fn of_case(question: &[u8], o: Opened) -> Windowed
     let g = problem_of_case::relations_of(sig);
     let t = rule_rewrite::nodes_of(question, rule.from, rule.to, sig);
     let m = problem_sizes::of_tables(n, ranges, g, t);
-    let k = problem_sizes::refusal(m, open_case::usual_limits());
-    if k != 0 {
-        return Windowed::Refused(k, 0);
-    }
+    problem_of_case::within(m, open_case::usual_limits())?;
     if m.every {
-        return Windowed::Refused(23, 0);
+        return Err(Cause::HasEvery.at(0));
     }
-    let w = problem_window::of_tables(n, ranges, t);
-    Windowed::Window(w.lower, w.upper)
+    Ok(problem_window::of_tables(n, ranges, t))
 }
 
 // The window of a question and a site, with the lent words for the site's facts.
-fn window_in(question: &[u8], site: &[u8], facts: &mut [u64]) -> Windowed
+fn window_in(question: &[u8], site: &[u8], facts: &mut [u64]) -> Result<Window, Refusal>
     requires { FactsRoom site.now 64 (length facts.old) × (bit facts.old ≡ λ i. false) }
     ensures { windowed_of result ≡ window_of usual question.now site.now }
 {
-    let o = read_sheets::read_case(question, site, open_case::ELEMENTS, facts);
-    if o.fault != 0 {
-        return Windowed::Refused(o.fault, o.place);
-    }
+    let o = read_sheets::read_case(question, site, open_case::ELEMENTS, facts)?;
     of_case(question, o)
 }
 
 // The window of a question and a site.
-pub fn window(question: &[u8], site: &[u8]) -> Windowed
+pub fn window(question: &[u8], site: &[u8]) -> Result<Window, Refusal>
     ensures { windowed_of result ≡ window_of usual question.now site.now }
 {
-    if open_case::is_small(site) {
-        let mut few = [0u64; open_case::FEW];
-        return window_in(question, site, &mut few);
-    }
-    let mut facts = [0u64; open_case::FACTS];
-    window_in(question, site, &mut facts)
+    open_room::with_facts(site, |facts: &mut [u64]| {
+        window_in(question, site, facts)
+    })
 }

@@ -1,13 +1,13 @@
 -- A node's truth as a search that may be left early.
-use Rattle.std.specs.Prelude.{◌≡◌, Bool, false, not, ◌||◌, List, [], ◌∷◌, map, ℕ, zero, suc, ◌+◌, ◌-◌, ◌*◌, ◌/◌, ◌%◌, ◌^◌, ◌≤◌, ◌<◌, eqb, ltb, length, set, if◌then◌else◌}
+use Rattle.std.specs.Prelude.{◌≡◌, Bool, false, not, ◌||◌, List, [], ◌∷◌, map, ℕ, zero, suc, ◌+◌, ◌-◌, ◌*◌, ◌/◌, ◌%◌, ◌^◌, ◌≤◌, ◌<◌, max, eqb, ltb, length, set, if◌then◌else◌}
 use Rattle.std.proofs.Math.Path.{refl, sym, ap, fun_ext}
-use Rattle.std.proofs.Common.{ap₂, subst, ◌∙◌, add-zero, zero-add, div-le_self}
-use Rattle.std.proofs.Math.Bool.{true}
+use Rattle.std.proofs.Common.{ap₂, ◌∙◌, add-zero, zero-add, div-le_self}
+use Rattle.std.proofs.Math.Bool.{true, beq}
 use native.Mathlib.Omega.{arith}
 use Rattle.std.proofs.Math.Numerals.{add-one}
 use Rattle.std.proofs.Math.Nat.{mod-le}
 use Rattle.std.proofs.Math.Decide.{dec_lt}
-use borrow.Author.Tests.{lt-ltb, le-ltb, ne_eqb, eqb-true, ltb-true, ltb-false}
+use borrow.Author.Tests.{lt-ltb, le-ltb, ne_eqb, eqb-true, ltb-true}
 use Rattle.std.proofs.Math.ListN.{get_or}
 use Rattle.definitions.specs.Lists.{any, from, below}
 use Rattle.definitions.specs.Sheet.Relations.{built_in_holds}
@@ -22,7 +22,7 @@ use Rattle.problem_table.specs.Lines.{part_number, members_in}
 use Rattle.problem_table.specs.NeedLaws.{value_times, within_most}
 use Rattle.problem_table.specs.Of.{no_part}
 use Rattle.problem_table.specs.declared.PartLine.{PartLine}
-use Rattle.eval_rule.specs.Lines.{lines_length, node_in, part_in, line_in, part_place, literal_at, leaf_at, agree, element_in, value_of, values_of, fixed_in, known, later_of, decided, joined, bound, SoundLines}
+use Rattle.eval_rule.specs.Lines.{lines_length, node_in, part_in, line_in, part_place, literal_at, leaf_at, agree, element_in, value_of, values_of, fixed_in, known, decided, joined, bound, SoundLines}
 use Rattle.eval_rule.specs.Says.{Truth, Leaf, node_of, no_values, PartSays, Says, Asked, truth_by, cell_of, under_of, parts_in, AllTurns, AllParts, IsCell, IsNode, Under, Still, Passed}
 use Rattle.eval_rule.specs.declared.NodeAt.{NodeAt}
 use Rattle.eval_rule.specs.declared.PartAt.{PartAt}
@@ -74,12 +74,6 @@ module _ (n : ℕ) (w : List ℕ) (sound : SoundLines n w) (v : ℕ) (l : v < 64
   rises i q h e t = rw (e, line) ((sound.node v l).rises i (rw line at h) (rw (e, line) at t))
 
 -- ---- the turns of a search, which are counted by how many are left
-pub none_gone : (P : ℕ → Type 0) (turns : ℕ) → P 0 → P (turns - turns)
-none_gone P turns p = let e : 0 ≡ turns - turns = omega arith in subst P e p
-
-pub one_gone : (P : ℕ → Type 0) (turns left : ℕ) → 0 < left → left ≤ turns → P (turns - left + 1) → P (turns - (left - 1))
-one_gone P turns left h k p = let e : turns - left + 1 ≡ turns - (left - 1) = omega arith in subst P e p
-
 agree_off : (a b : Bool) → agree a b ≡ false → agree (not a) b ≡ true
 unfolding agree
 agree_off true true h = sym h
@@ -135,36 +129,15 @@ known_is false i seen r e h = let z : ◌≡◌ {A = Bool} false true = sym e �
     clash : ◌≡◌ {A = Bool} false true → ⊥
     clash q = let z : ◌≡◌ {A = ℕ} 0 1 = cc in omega arith
 
-pub later_second : (a b : ℕ) → a < b → b ≡ later_of a b
-unfolding later_of
-later_second a b h = rw (lt-ltb a b h) refl
+pub later_over : (a b k : ℕ) → k ≡ max a b → (a ≤ k) × (b ≤ k)
+later_over a b k e = (omega arith, omega arith)
 
-pub later_first : (a b : ℕ) → b ≤ a → a ≡ later_of a b
-unfolding later_of
-later_first a b h = rw (le-ltb a b h) refl
-
-pub later_over : (a b k : ℕ) → k ≡ later_of a b → (a ≤ k) × (b ≤ k)
-unfolding later_of
-later_over a b k e = by_test (ltb a b) refl e
+later_new : (i seen j : ℕ) → i ≤ seen → j < max seen (i + 1) → (j < seen → ⊥) → j ≡ i
+later_new i seen j h l q = from_this (dec_lt j seen)
   where
-    by_test : (t : Bool) → ltb a b ≡ t → k ≡ (if t then b else a) → (a ≤ k) × (b ≤ k)
-    by_test true h q = let l : a < b = ltb-true a b h in (omega arith, omega arith)
-    by_test false h q = let l : b ≤ a = ltb-false a b h in (omega arith, omega arith)
-
-later_new : (i seen j : ℕ) → i ≤ seen → j < later_of seen (i + 1) → (j < seen → ⊥) → j ≡ i
-unfolding later_of
-later_new i seen j h l q = by_test (ltb seen (i + 1)) l
-  where
-    by_test : (t : Bool) → j < (if t then i + 1 else seen) → j ≡ i
-    by_test true k = let o : seen ≤ j = not_less in omega arith
-      where
-        not_less : seen ≤ j
-        not_less = pick (dec_lt j seen)
-          where
-            pick : Dec (j < seen) → seen ≤ j
-            pick (yes z) = absurd (q z)
-            pick (no z) = omega arith
-    by_test false k = absurd (q k)
+    from_this : Dec (j < seen) → j ≡ i
+    from_this (yes z) = absurd (q z)
+    from_this (no z) = omega arith
 
 pub fixed_at : (w : List ℕ) (i level : ℕ) → level < 4 → eqb (get_or w (448 + 7 * i + 3 + level) 0) 0 ≡ fixed_in w i level
 unfolding fixed_in line_in
@@ -201,7 +174,7 @@ module _ (n : ℕ) (w : List ℕ) (leaf : Leaf) (v : ℕ) where
       pub cell_known : i < seen → fixed_in w (first + i) level ≡ true → (b : Bool) → b ≡ not joins → IsCell n w leaf v θ i b
       cell_known l f b q H root h = q ∙ sym (ap (λ (z : Values). cell_of H (parts_in n w leaf v h) z i) (same_value θ level) ∙ p H root h i l f (θ level))
 
-      pub passed_next : Still n w leaf v level first many → (b r : Bool) → i ≤ seen → i < many → IsCell n w leaf v θ i b → r ≡ agree b joins → r ≡ false → (k : ℕ) → k ≡ later_of seen (i + 1)
+      pub passed_next : Still n w leaf v level first many → (b r : Bool) → i ≤ seen → i < many → IsCell n w leaf v θ i b → r ≡ agree b joins → r ≡ false → (k : ℕ) → k ≡ max seen (i + 1)
           → Passed n w leaf v level first many joins θ k
       passed_next still b r q l k a f m g H root h j o x z = from_this (dec_lt j seen)
         where
@@ -361,13 +334,12 @@ module _ (n r x y : ℕ) where
   unfolding built_in_holds
   is_max e = rw (e, add-one x) refl
 
-pub agree_yes : (a b : Bool) → a ≡ true → b ≡ agree a b
+pub agree_is : (a b : Bool) → beq a b ≡ agree a b
 unfolding agree
-agree_yes a b e = rw e refl
-
-pub agree_no : (a b : Bool) → a ≡ false → not b ≡ agree a b
-unfolding agree
-agree_no a b e = rw e refl
+agree_is true true = refl
+agree_is true false = refl
+agree_is false true = refl
+agree_is false false = refl
 
 pub value_element : (kind element old : ℕ) → kind < 2 → element ≡ value_of kind element old
 unfolding value_of

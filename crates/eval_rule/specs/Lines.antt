@@ -81,9 +81,6 @@ fixed_in w i level = eqb (get_or (line_in w i).weights level 0) 0
 unfoldable pub known : Bool → (i seen : ℕ) → Bool
 known fixed i seen = if fixed then ltb i seen else false
 
-unfoldable pub later_of : (a b : ℕ) → ℕ
-later_of a b = if ltb a b then b else a
-
 -- what is decided by whether something is found
 unfoldable pub decided : Bool → Bool → Bool
 decided sought true = sought

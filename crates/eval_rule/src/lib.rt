@@ -7,7 +7,7 @@ ghost use Rattle.definitions.specs.Sheet.Relations.{built_in_holds};
 ghost use Rattle.definitions.specs.Problem.Tree.{Tree};
 ghost use Rattle.bits.specs.Table.{digit};
 ghost use Rattle.rows.specs.Values.{value_in, Within};
-ghost use Rattle.eval_rule.specs.Lines.{lines_length, node_in, part_in, line_in, literal_at, leaf_at, value_of, agree, fixed_in, known, later_of, SoundLines};
+ghost use Rattle.eval_rule.specs.Lines.{lines_length, node_in, part_in, line_in, literal_at, leaf_at, value_of, fixed_in, known, SoundLines};
 ghost use Rattle.eval_rule.specs.Says.{Truth, Says, Asked, node_of, no_values};
 
 // The numbers of a node's line and of a part's.
@@ -96,29 +96,20 @@ fn built_in_holds(n: usize, r: usize, x: usize, y: usize) -> bool
     requires { (r < 5) × (x ≤ 2 ^ 48) × (y ≤ 2 ^ 48) }
     ensures { result ≡ built_in_holds n r x y }
 {
-    if r == 0 {
-        return x == y;
+    match r {
+        0 => x == y,
+        1 => x < y,
+        2 => y == x + 1,
+        3 => x == 0,
+        _ => x + 1 == n,
     }
-    if r == 1 {
-        return x < y;
-    }
-    if r == 2 {
-        return y == x + 1;
-    }
-    if r == 3 {
-        return x == 0;
-    }
-    x + 1 == n
 }
 
 // Whether digit k of a value is 1; a value has no digit past the 63rd.
 fn value_has(value: usize, k: usize) -> bool
     ensures { result ≡ digit value k }
 {
-    if k < 64 {
-        return (value >> k) % 2 == 1;
-    }
-    false
+    k < 64 && (value >> k) % 2 == 1
 }
 
 // Whether tuple k holds: a built-in one by its row, one of a value by its digit, another by its bit.
@@ -126,29 +117,13 @@ fn literal_holds(facts: &[u64], picks: &[u64], n: usize, which: usize, k: usize)
     requires { (0 < n) × (k ≤ 2 ^ 48) }
     ensures { result ≡ literal_at facts.now picks.now n which k }
 {
-    if which < 3 {
-        return built_in_holds(n, which, k / n, k % n);
+    match which {
+        0..=2 => built_in_holds(n, which, k / n, k % n),
+        3 | 4 => built_in_holds(n, which, k, 0),
+        5 => problem_table::test(facts, k),
+        6 => problem_table::test(picks, k),
+        _ => value_has(which - 7, k),
     }
-    if which < 5 {
-        return built_in_holds(n, which, k, 0);
-    }
-    if which == 5 {
-        return problem_table::test(facts, k);
-    }
-    if which == 6 {
-        return problem_table::test(picks, k);
-    }
-    value_has(which - 7, k)
-}
-
-// Whether two answers are the same.
-fn agrees(a: bool, b: bool) -> bool
-    ensures { result ≡ agree a b }
-{
-    if a {
-        return b;
-    }
-    !b
 }
 
 // Whether a literal holds at the values of levels.
@@ -167,7 +142,7 @@ pub fn leaf_holds(
     let line = line_at(lines, i);
     let k = problem_table::part_number(line, env);
     let b = literal_holds(facts, picks, n, q.which, k);
-    agrees(b, q.tag == 1)
+    b == (q.tag == 1)
 }
 
 // What stands at a node's level in a turn: under a quantifier the element at a place, else what stood there.
@@ -194,20 +169,7 @@ pub fn is_fixed(lines: &[usize], i: usize, level: usize) -> bool
 fn is_known(fixed: bool, i: usize, seen: usize) -> bool
     ensures { result ≡ known fixed i seen }
 {
-    if fixed {
-        return i < seen;
-    }
-    false
-}
-
-// The greater of two numbers.
-fn later(a: usize, b: usize) -> usize
-    ensures { result ≡ later_of a b }
-{
-    if a < b {
-        return b;
-    }
-    a
+    fixed && i < seen
 }
 
 // Whether node v is true at the values of levels. An element is left at the first part that decides it, and the node at the first
@@ -234,18 +196,14 @@ pub fn node_holds(
     let turns = x.count;
     let sought = kind == 1;
     let joins = x.join == 1;
-    let decisive = agrees(joins, sought);
+    let decisive = joins == sought;
     let old = env[level];
     let mut values = env;
     let mut answer = !sought;
-    let mut left = turns;
     let mut seen: usize = 0;
-    'elements: while 0 < left {
-        let turn = turns - left;
-        left -= 1;
+    'elements: for turn in 0..turns {
         values[level] = value_at(lines, kind, range + turn, old);
-        let mut i: usize = 0;
-        'parts: while i < many {
+        'parts: for i in 0..many {
             let fixed = is_fixed(lines, first + i, level);
             let q = part_at(lines, first + i);
             let b = if is_known(fixed, i, seen) {
@@ -255,7 +213,7 @@ pub fn node_holds(
             } else {
                 leaf_holds(lines, facts, picks, n, first + i, q, values)
             };
-            if agrees(b, joins) {
+            if b == joins {
                 if decisive {
                     answer = sought;
                     break 'elements;
@@ -265,8 +223,7 @@ pub fn node_holds(
                 }
                 continue 'elements;
             }
-            i += 1;
-            seen = later(seen, i);
+            seen = seen.max(i + 1);
         }
         if decisive {
             continue 'elements;

@@ -1,5 +1,5 @@
 -- Binary digits of the numbers of a block: those of a run of 2 ^ k numbers from a multiple of 2 ^ k on.
-use Rattle.std.specs.Prelude.{ℕ, suc, ◌+◌, ◌-◌, ◌*◌, ◌/◌, ◌%◌, ◌^◌, ◌<◌, ◌≤◌, ◌≡◌, refl, Bool, true, false, not, eqb, ltb}
+use Rattle.std.specs.Prelude.{ℕ, suc, ◌+◌, ◌-◌, ◌*◌, ◌/◌, ◌%◌, ◌^◌, ◌<◌, ◌≡◌, refl, Bool, true, false, not, eqb, ltb}
 use Rattle.std.proofs.Common.{sym, ap, subst, ◌∙◌, arith, mul_comm, mul_assoc, pow-suc, pow_pos, pow-add, ltb-true, ltb-false}
 use Rattle.std.proofs.Math.Nat.{div-div-eq-div-mul, add-mul-div_right, add-mul-mod_self_right}
 use Rattle.std.proofs.Math.Arith.{digits_div}

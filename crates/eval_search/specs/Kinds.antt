@@ -20,8 +20,9 @@ use Rattle.meaning.specs.Grounded.{good}
 use Rattle.meaning.specs.Picks.{inside_picks}
 use Rattle.problem_table.specs.Lines.{relations_in}
 use Rattle.problem_relations.specs.Bare.{bare, kinds_same}
-use Rattle.step_picks.specs.declared.Kinds.{Kinds}
-use Rattle.step_picks.specs.declared.Kinds.TheVariants.{Kept, Broken}
+use Rattle.std.specs.Prelude.{Some, None, not}
+use Rattle.std.specs.Option.{is_some}
+use Rattle.std.specs.Prelude as P
 use Rattle.step_picks.specs.KindLaws.{kinds_are}
 use Rattle.step_picks.specs.Tests.{told, broken_at}
 use Rattle.step_picks.specs.Words.{rows_in}
@@ -43,18 +44,34 @@ module _ (c : Case) (table : List ℕ) (s : Sought c table) (cells : ℕ) (e : S
   pub front : take (picks_length (problem_of c)) t ≡ pick_words (problem_of c) (numbered (cells_of c) m)
   front = front_is (problem_of c) table s.is (good c s.accepted_case) cells counted m t f
 
-  module _ (k : Kinds) (q : told k ≡ position (broken_at (bare (problem_of c)) (rows_in (bare (problem_of c)) t)) (chosen_numbers (bare (problem_of c)))) where
+  module _ (k : P.Option ℕ) (q : told k ≡ position (broken_at (bare (problem_of c)) (rows_in (bare (problem_of c)) t)) (chosen_numbers (bare (problem_of c)))) where
     told_is : told k ≡ first_of_other_kind c (numbered (cells_of c) m)
     told_is = q ∙ kinds_same (problem_of c) t ∙ kinds_are c s.accepted_case (numbered (cells_of c) m) (numbered_picks c s.accepted_case m) t (picked (problem_of c) table s.is (good c s.accepted_case) cells counted m t f)
 
-    pub kinds_kept : k ≡ Kept → true ≡ are_of_kinds c (numbered (cells_of c) m)
+    kinds_kept : k ≡ None → true ≡ are_of_kinds c (numbered (cells_of c) m)
     unfolding told
     kinds_kept z = sym (kinds_told c (numbered (cells_of c) m) (sym told_is ∙ ap told z))
 
-    pub kinds_broken : (i : ℕ) → k ≡ Broken i → false ≡ are_of_kinds c (numbered (cells_of c) m)
+    kinds_broken : (i : ℕ) → k ≡ Some i → false ≡ are_of_kinds c (numbered (cells_of c) m)
     unfolding told
     kinds_broken i z = sym (by_test (are_of_kinds c (numbered (cells_of c) m)) (kinds_hold c (numbered (cells_of c) m)))
       where
         by_test : (b : Bool) → (b ≡ true → first_of_other_kind c (numbered (cells_of c) m) ≡ none) → b ≡ false
         by_test true r = absurd (none_some (sym (r refl) ∙ sym told_is ∙ ap told z))
         by_test false r = refl
+
+    -- ... which is whether nothing is found
+    pub kinds_told_by : (b : Bool) → is_some k ≡ not b → b ≡ are_of_kinds c (numbered (cells_of c) m)
+    kinds_told_by b e = by_answer k refl
+      where
+        one : (d : Bool) → false ≡ not d → d ≡ true
+        one true h = refl
+        one false h = h
+
+        other : (d : Bool) → true ≡ not d → d ≡ false
+        other true h = h
+        other false h = refl
+
+        by_answer : (x : P.Option ℕ) → k ≡ x → b ≡ are_of_kinds c (numbered (cells_of c) m)
+        by_answer None z = one b (sym (ap is_some z) ∙ e) ∙ kinds_kept z
+        by_answer (Some i) z = other b (sym (ap is_some z) ∙ e) ∙ kinds_broken i z

@@ -3,7 +3,7 @@ use Rattle.std.specs.Prelude.{ℕ, zero, suc, ◌+◌, ◌-◌, ◌*◌, ◌/◌
 use Rattle.std.proofs.Math.Path.{◌≡◌, sym, ap, ap₂}
 use Rattle.std.proofs.Common.{subst, ◌∙◌, arith, pow-suc, div-one, mul_assoc, mul_comm, add-mul, div-add-mod', mod-lt, mul-le-mul, mul-le-mul_right, pow_pos, pow_mono, pow-add, get_or-set_same, get_or-set_other, lt-ltb, ltb-true, ltb-false}
 use Rattle.std.proofs.Math.Bool.{true, false, ◌&&◌}
-use Rattle.std.proofs.Math.Option.{Option, none, some}
+use Rattle.std.proofs.Math.Option.{none, some}
 use Rattle.std.proofs.Math.Decide.{ℕ_discrete}
 use Rattle.std.proofs.Math.Nat.{pow-zero, div-div-eq-div-mul}
 use Rattle.std.proofs.Math.Arith.{digits_div}
@@ -25,13 +25,8 @@ use Rattle.eval_search.specs.Lanes.{NextLane}
 use Rattle.eval_search.specs.Blocks.{NoneIn, may_hold, none_true, none_kept, exact}
 use Rattle.eval_search.specs.Search.{NoneBelow, none_yet, skip_runs, least_is, none_is}
 use Rattle.eval_search.specs.declared.Spot.{Spot}
-use Rattle.eval_search.specs.declared.Least.{Least}
-use Rattle.eval_search.specs.declared.Least.TheVariants.{Nothing, Number}
-
--- an answer
-unfoldable pub told : Least → Option ℕ
-told Nothing = none
-told (Number m) = some m
+use Rattle.std.specs.Prelude.{Some, None}
+use Rattle.step_picks.specs.Tests.{told}
 
 -- the table is that of a case without an `every` line; the lines and the facts are too
 pub record Sought (c : Case) (table : List ℕ) : Type 0 where
@@ -426,11 +421,11 @@ pub nearer : (s t : Spot) → Placed t → start_of s < 2 ^ 20 → Falls s t →
 nearer s t p h f = let a = phase_le t.lane t.level p.levels in omega arith
 
 module _ (c : Case) (ts : List Tuple) (s : Spot) (x : ℕ) (is : x ≡ start_of s) (i : Searched c ts s) where
-  pub answers_number : meets c (numbered ts (start_of s)) ≡ true → told (Number x) ≡ least_number c ts
+  pub answers_number : meets c (numbered ts (start_of s)) ≡ true → told (Some x) ≡ least_number c ts
   unfolding told
   answers_number m = ap some is ∙ sym (least_is c ts (start_of s) i.before m)
 
-  pub answers_nothing : (cells : ℕ) → cells ≡ length ts → cells ≤ 20 → (1 * 2 ^ cells) % 2 ^ 64 ≤ x → told Nothing ≡ least_number c ts
+  pub answers_nothing : (cells : ℕ) → cells ≡ length ts → cells ≤ 20 → (1 * 2 ^ cells) % 2 ^ 64 ≤ x → told None ≡ least_number c ts
   unfolding told
   answers_nothing cells e h l =
       let q = end_is cells h in

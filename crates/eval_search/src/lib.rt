@@ -8,12 +8,13 @@ ghost use Rattle.definitions.specs.Reply.Finding.{numbered, least_number};
 ghost use Rattle.bits.specs.Table.{digit, word as «word_of»};
 ghost use Rattle.problem_table.specs.Lines.{Fits, relations_in};
 ghost use Rattle.eval_rule.specs.Lines.{agree};
+ghost use Rattle.step_picks.specs.Tests.{told};
 ghost use Rattle.eval_table.specs.Numbers.{OfCase};
 ghost use Rattle.eval_search.specs.Numbers.{pattern_of};
 ghost use Rattle.eval_search.specs.Lanes.{number_in, NextLane};
 ghost use Rattle.eval_search.specs.Filled.{Filled, CellsIn};
 ghost use Rattle.eval_search.specs.Counts.{cells_in, cells_to, words_to, digits_to, Searchable};
-ghost use Rattle.eval_search.specs.Steps.{cells_of, run_start, start_of, Sought, Asks, MayHold, Placed, Entered, Stepped, told};
+ghost use Rattle.eval_search.specs.Steps.{cells_of, run_start, start_of, Sought, Asks, MayHold, Placed, Entered, Stepped};
 
 use problem_table::RelationLine;
 
@@ -30,22 +31,14 @@ fn pattern(d: usize) -> u64
     requires { d < 6 }
     ensures { result ≡ pattern_of d }
 {
-    if d == 0 {
-        return 12297829382473034410;
+    match d {
+        0 => 12297829382473034410,
+        1 => 14757395258967641292,
+        2 => 17361641481138401520,
+        3 => 18374966859414961920,
+        4 => 18446462603027742720,
+        _ => 18446744069414584320,
     }
-    if d == 1 {
-        return 14757395258967641292;
-    }
-    if d == 2 {
-        return 17361641481138401520;
-    }
-    if d == 3 {
-        return 18374966859414961920;
-    }
-    if d == 4 {
-        return 18446462603027742720;
-    }
-    18446744069414584320
 }
 
 // Digit d of sixty-four numbers: those from 64 · top on.
@@ -82,10 +75,8 @@ fn fill_rows(words: &mut [u64], at: usize, count: usize, lanes: Lanes, left: usi
     requires { (at + count ≤ length words.old) × (count ≤ left) × (left ≤ 64) }
     ensures { Filled (number_in lanes.top lanes.low keeps) left at count keeps words.old words.new }
 {
-    let mut row: usize = 0;
-    while row < count {
+    for row in 0..count {
         words[at + row] = lane_word(lanes, left - 1 - row, keeps);
-        row += 1;
     }
 }
 
@@ -105,11 +96,9 @@ pub fn count_cells(table: &[usize]) -> usize
     ensures { result ≡ cells_to table.now (relations_in table.now) }
 {
     let mut sum: usize = 0;
-    let mut r: usize = 0;
-    while r < table[1] {
+    for r in 0..table[1] {
         let line = problem_table::relation_line(table, r);
         sum += cells_in(line);
-        r += 1;
     }
     sum
 }
@@ -121,14 +110,12 @@ fn fill(table: &[usize], words: &mut [u64], cells: usize, lanes: Lanes, keeps: b
 {
     let mut word: usize = 0;
     let mut left: usize = cells;
-    let mut r: usize = 0;
-    while r < table[1] {
+    for r in 0..table[1] {
         let line = problem_table::relation_line(table, r);
         let count = cells_in(line);
         fill_rows(words, 64 * word, count, lanes, left, keeps);
         word += step_picks::words_in(line);
         left -= count;
-        r += 1;
     }
 }
 
@@ -138,10 +125,8 @@ fn row_bits(m: u64, left: usize, count: usize) -> u64
     ensures { result ≡ «word_of» (λ i. ltb i count && digit m (left - 1 - i)) 64 }
 {
     let mut w: u64 = 0;
-    let mut i: usize = 0;
-    while i < count {
+    for i in 0..count {
         w = w * 2 + (m >> (left - count + i)) % 2;
-        i += 1;
     }
     w
 }
@@ -153,14 +138,12 @@ pub fn number_picks(table: &[usize], words: &mut [u64], cells: usize, m: u64)
 {
     let mut word: usize = 0;
     let mut left: usize = cells;
-    let mut r: usize = 0;
-    while r < table[1] {
+    for r in 0..table[1] {
         let line = problem_table::relation_line(table, r);
         let count = cells_in(line);
         words[word] = row_bits(m, left, count);
         word += step_picks::words_in(line);
         left -= count;
-        r += 1;
     }
 }
 
@@ -171,11 +154,7 @@ fn keeps_kinds(table: &[usize], cells: usize, m: u64) -> bool
 {
     let mut words = [0u64; PICK_WORDS];
     number_picks(table, &mut words, cells, m);
-    let kinds = step_picks::test_kinds(table, &words);
-    match kinds {
-        step_picks::Kinds::Broken(_) => false,
-        step_picks::Kinds::Kept => true,
-    }
+    step_picks::test_kinds(table, &words).is_none()
 }
 
 // In which of sixty-four runs the rule may hold.
@@ -302,13 +281,6 @@ fn turn(table: &[usize], lines: &[usize], facts: &[u64], n: usize, cells: usize,
     }
 }
 
-// The least number whose picks are of the declared kinds and make the rule true, or that there is none.
-#[derive(Clone, Copy)]
-pub enum Least {
-    Nothing,
-    Number(u64),
-}
-
 // The level whose sixty-four runs have all numbers of so many digits.
 fn top_level(cells: usize) -> usize
     requires { cells ≤ 20 }
@@ -320,14 +292,14 @@ fn top_level(cells: usize) -> usize
     (cells - 1) / 6
 }
 
-// The least such number, cells read as binary digits.
+// The least number whose picks are of the declared kinds and make the rule true, cells read as binary digits.
 pub fn least_number(
     table: &[usize],
     lines: &[usize],
     facts: &[u64],
     n: usize,
     cells: usize,
-) -> Least
+) -> Option<u64>
     requires { Searchable table.now cells × OfCase n lines.now }
     ensures { (c : Case) → Asks c n table.now lines.now facts.now → told result ≡ least_number c (cells_of c) }
 {
@@ -339,11 +311,12 @@ pub fn least_number(
         kept: [eval_valuations::FULL; LEVELS],
     };
     let mut at = enter(table, lines, facts, n, cells, first);
+    // no count: a step may pass over many runs, or go a level down
     while number_at(at.top, at.lane, at.level) < 1 << cells {
         at = turn(table, lines, facts, n, cells, at);
         if at.found {
-            return Least::Number(number_at(at.top, at.lane, at.level));
+            return Some(number_at(at.top, at.lane, at.level));
         }
     }
-    Least::Nothing
+    None
 }

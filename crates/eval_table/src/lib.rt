@@ -72,14 +72,12 @@ fn bits_of(n: usize, g: Relations) -> [usize; problem_layout::RELATIONS]
     let mut bits = [0usize; problem_layout::RELATIONS];
     let mut facts: usize = 0;
     let mut picks: usize = 0;
-    let mut r: usize = 0;
-    while r < problem_layout::RELATIONS {
+    for r in 0..problem_layout::RELATIONS {
         let kind = g.kind[r];
         let words = (rows::power(n, g.arity[r]) + 63) / 64;
         bits[r] = first_bit(r, kind, facts, picks);
         facts = facts + fact_words(r, words);
         picks = picks + choose_words(kind, words);
-        r += 1;
     }
     bits
 }
@@ -131,12 +129,10 @@ fn turns_of(count: usize, level: u8, q: PartRow) -> usize
 {
     let levels = q.levels;
     let width = rule_nodes::wide(q.width);
-    let mut i: usize = 0;
-    while i < width {
+    for i in 0..width {
         if levels[i] == level {
             return count;
         }
-        i += 1;
     }
     1
 }
@@ -207,13 +203,11 @@ fn fill_nodes(lines: &mut [usize], n: usize, t: Nodes, ranges: Ranges)
     requires { (length lines.old ≡ lines_length) × RangesFit n ranges × Fits t }
     ensures { (lines.new ≡ splice 0 (tab (node_lines ranges.count t) t.count) lines.old) × ((v : ℕ) → v < t.count → Most (node_lines ranges.count t v) (2 ^ 32)) }
 {
-    let mut v: usize = 0;
-    while v < t.count {
+    for v in 0..t.count {
         let x = t.rows[v];
         let count = ranges.count[rule_nodes::wide(x.sort)];
         let line = node_line(count, t, x);
         problem_layout::store(lines, eval_rule::NODE_LINE * v, &line);
-        v += 1;
     }
 }
 
@@ -233,12 +227,10 @@ fn fill_parts(lines: &mut [usize], n: usize, g: Relations, t: Nodes, value: usiz
         × ((i : ℕ) → i < t.placed → Most (part_lines n value g t i) (2 ^ 32)) × Most (part_list n value g t.root) (2 ^ 32) }
 {
     let bits = bits_of(n, g);
-    let mut i: usize = 0;
-    while i < t.placed {
+    for i in 0..t.placed {
         let q = t.parts[i];
         let line = part_line(n, g, &bits, q, value);
         problem_layout::store(lines, eval_rule::PART_AT + eval_rule::PART_LINE * i, &line);
-        i += 1;
     }
     let q = t.root;
     let last = part_line(n, g, &bits, q, value);

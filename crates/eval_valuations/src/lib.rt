@@ -13,7 +13,7 @@ ghost use Rattle.eval_valuations.specs.Words.{spread_of, skip_to, only_of, leaf_
 use eval_rule::PartAt;
 
 // All digits set.
-pub const FULL: u64 = 18446744073709551615;
+pub const FULL: u64 = u64::MAX;
 
 // A word, or its complement.
 pub fn turned(w: u64, keeps: bool) -> u64
@@ -55,16 +55,6 @@ fn only(w: u64, b: bool) -> u64
     0
 }
 
-// A lent word, 0 past the end.
-fn word_at(words: &[u64], k: usize) -> u64
-    ensures { result ≡ get_or words.now k 0 }
-{
-    if k < words.len() {
-        return words[k];
-    }
-    0
-}
-
 // In which valuations a literal holds at the values of levels.
 fn leaf_words(
     lines: &[usize],
@@ -85,9 +75,9 @@ fn leaf_words(
     let line = eval_rule::line_at(lines, i);
     let k = problem_table::part_number(line, env);
     if q.tag == 1 {
-        return word_at(pos, k);
+        return bits::word_at(pos, k);
     }
-    word_at(neg, k)
+    bits::word_at(neg, k)
 }
 
 // In which valuations node v is true at the values of levels. A word that is full is left at once: no further part, or element, can
@@ -118,6 +108,7 @@ pub fn node_words(
     let mut values = env;
     let mut found: u64 = 0;
     let mut turn: usize = 0;
+    // no counts: both loops go to their end at once where no further turn can change the word (by `break` the proof has each turn twice)
     'elements: while turn < turns {
         values[level] = eval_rule::value_at(lines, kind, range + turn, old);
         let mut hit: u64 = 0;

@@ -9,6 +9,7 @@ ghost use Rattle.definitions.specs.Limits.{usual};
 ghost use Rattle.definitions.specs.Problem.Actions.{action_kind, action_subject, action_row, action_choice};
 ghost use Rattle.definitions.specs.Reply.Outcome.{as_text, as_numbers, sizes as «sizes_of», action as «action_of_lem», rule_part, check_steps, picks_from_steps, build_steps, written, reply_number, reply_place, refusal_place, told};
 ghost use Rattle.open_case.specs.Replies.{result_of};
+ghost use Rattle.refusal.specs.Numbers.{number_of};
 ghost use Rattle.nendokwe.specs.Told.{details_of};
 ghost use Rattle.definitions.specs.Reply.Allowance.{allowances as «allowances_of»};
 ghost use Rattle.definitions.specs.Reply.Judgement.{judge};
@@ -20,12 +21,19 @@ ghost use Rattle.definitions.specs.Reply.Pddl.{write_domain, write_instance, wri
 ghost use Rattle.definitions.specs.Reply.Tries.{try_lists};
 ghost use Rattle.call_tries.specs.Recorded.{records};
 
-use call_action::Asked;
-use call_sizes::Sizing;
 use call_tries::Try;
-use call_window::Windowed;
 use open_case::Reply;
 use problem_table::{Act, ChoiceAct, TupleAct};
+use refusal::Refusal;
+
+// A refusal as number and place.
+fn tell_refusal(e: Refusal, number: &mut u32, place: &mut usize)
+    ensures number_after { number.new ≡ number_of e.cause }
+    ensures place_after { place.new ≡ e.place }
+{
+    *number = e.cause.number();
+    *place = e.place;
+}
 
 // A reply as number and place.
 fn tell(r: Reply, number: &mut u32, place: &mut usize)
@@ -33,14 +41,11 @@ fn tell(r: Reply, number: &mut u32, place: &mut usize)
     ensures place_after { place.new ≡ reply_place (result_of r) }
 {
     match r {
-        Reply::Accepted(count) => {
+        Ok(count) => {
             *number = 0;
             *place = count;
         }
-        Reply::Refused(k, at) => {
-            *number = k;
-            *place = at;
-        }
+        Err(e) => tell_refusal(e, number, place),
     }
 }
 
@@ -50,10 +55,16 @@ pub extern "C" fn nendokwe_rule(question: &[u8], start: &mut usize, length: &mut
     ensures start_after { start.new ≡ (rule_part question.now).start }
     ensures length_after { length.new ≡ (rule_part question.now).len }
 {
-    let q = read_question::question(question);
-    let part = q.rule;
-    *start = part.from;
-    *length = part.to - part.from;
+    match read_question::question(question) {
+        Ok(q) => {
+            *start = q.rule.from;
+            *length = q.rule.to - q.rule.from;
+        }
+        Err(_) => {
+            *start = 0;
+            *length = 0;
+        }
+    }
 }
 
 // The sizes of a case.
@@ -77,7 +88,7 @@ pub extern "C" fn nendokwe_sizes(
 {
     let r = call_sizes::sizes(question, site);
     match r {
-        Sizing::Sized(s) => {
+        Ok(s) => {
             *number = 0;
             *place = 0;
             *elements = s.elements;
@@ -85,10 +96,7 @@ pub extern "C" fn nendokwe_sizes(
             *actions = s.actions;
             *bound = s.bound;
         }
-        Sizing::Refused(k, at) => {
-            *number = k;
-            *place = at;
-        }
+        Err(e) => tell_refusal(e, number, place),
     }
 }
 
@@ -184,7 +192,7 @@ pub extern "C" fn nendokwe_action(
 {
     let r = call_action::action(question, site, k);
     match r {
-        Asked::Action(a) => {
+        Ok(a) => {
             let d = in_numbers(a);
             *number = 0;
             *place = 0;
@@ -193,10 +201,7 @@ pub extern "C" fn nendokwe_action(
             *row = d.row;
             *choice = d.choice;
         }
-        Asked::Refused(k, at) => {
-            *number = k;
-            *place = at;
-        }
+        Err(e) => tell_refusal(e, number, place),
     }
 }
 
@@ -489,16 +494,13 @@ pub extern "C" fn nendokwe_window(
 {
     let r = call_window::window(question, site);
     match r {
-        Windowed::Window(least, most) => {
+        Ok(w) => {
             *number = 0;
             *place = 0;
-            *lower = least;
-            *upper = most;
+            *lower = w.lower;
+            *upper = w.upper;
         }
-        Windowed::Refused(k, at) => {
-            *number = k;
-            *place = at;
-        }
+        Err(e) => tell_refusal(e, number, place),
     }
 }
 

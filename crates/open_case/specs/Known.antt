@@ -1,8 +1,9 @@
 -- What is known once a case was read and its problem grounded: the refusal or the case, the facts, the table and the counts.
 -- Assumes nothing.
 use Prim.Native.Nat.{ℕ, zero, suc, ◌+◌, ◌/◌, ◌^◌, ◌≤◌, ◌<◌}
-use Rattle.std.specs.Prelude.{◌≡◌, Bool, ◌&&◌, ◌||◌, T, length}
-use Rattle.std.proofs.Math.Path.{refl, sym, ap, ap₂}
+use Rattle.std.specs.Prelude.{◌≡◌, Bool, ◌&&◌, ◌||◌, T, length, Ok, Err}
+use Rattle.std.specs.Prelude as P
+use Rattle.std.proofs.Math.Path.{refl, sym, ap}
 use Rattle.std.proofs.Common.{subst, ◌∙◌}
 use Rattle.std.proofs.Math.Bool.{false}
 use Rattle.std.proofs.Math.Option.{Option, none, some}
@@ -13,7 +14,7 @@ use Rattle.std.proofs.Math.Dec.{ltb}
 use borrow.Author.Tests.{lt-ltb, le-ltb, ltb-false}
 use Rattle.definitions.specs.Limits.{CaseLimits}
 use Rattle.definitions.specs.Lists.{option, is_some, listed}
-use Rattle.definitions.specs.Refusal.{Result, refused, accepted, refuse_if}
+use Rattle.definitions.specs.Refusal.{refused, accepted, refuse_if}
 use Rattle.definitions.specs.Sheet.Relations.{Kind, Relation, is_universal}
 use Rattle.definitions.specs.Sheet.Sheets.{read_question}
 use Rattle.definitions.specs.Problem.Truth.{Case, every_tuples}
@@ -33,6 +34,8 @@ use Rattle.problem_action.specs.Decoded.{Grounded}
 use Rattle.read_sheets.specs.declared.Opened.{Opened}
 use Rattle.read_sheets.specs.Opening.{Holds}
 use Rattle.read_names.specs.Signatures.{relation_in, last_of, every_of}
+use Rattle.refusal.specs.declared.Refusal.{Refusal}
+use Rattle.refusal.specs.Numbers.{number_of}
 use Rattle.problem_of_case.specs.declared.Sized.{Sized}
 use Rattle.problem_of_case.specs.Grounds.{GroundsTo, Tabled}
 use Rattle.step_run.specs.declared.End.{End}
@@ -65,30 +68,20 @@ module _ (s : List ℕ) (c : Case) (o : Opened) (facts : ℕ → Bool) (h : Hold
 
 -- ---- the problem
 
-module _ (L : CaseLimits) (c : Case) (m : Sized) (w : List ℕ) (g : GroundsTo (Outcome.ground L c) m w) where
-  pub case_over : (m.refusal ≡ 0 → ⊥) → Outcome.ground L c ≡ refused m.refusal 0
-  unfolding GroundsTo
-  case_over o = by_result (Outcome.ground L c) g
-    where
-      by_result : (x : Result Problem) → GroundsTo x m w → x ≡ refused m.refusal 0
-      by_result (refused k place) h = ap₂ refused h.number h.no_place
-      by_result (accepted p) h = absurd (o h.within)
+module _ (L : CaseLimits) (c : Case) (m : P.Result Sized Refusal) (w : List ℕ) (g : GroundsTo (Outcome.ground L c) m w) where
+  pub case_over : (e : Refusal) → m ≡ Err e → Outcome.ground L c ≡ refused (number_of e.cause) e.place
+  case_over e o = subst (λ (x : P.Result Sized Refusal). GroundsTo (Outcome.ground L c) x w) o g
 
-  module _ (o : m.refusal ≡ 0) where
-    within : (p : Problem) × (Outcome.ground L c ≡ accepted p) × Tabled p m w
-    unfolding GroundsTo
-    within = by_result (Outcome.ground L c) refl g
-      where
-        by_result : (x : Result Problem) → Outcome.ground L c ≡ x → GroundsTo x m w → (p : Problem) × (Outcome.ground L c ≡ accepted p) × Tabled p m w
-        by_result (refused k place) e h = absurd (h.over o)
-        by_result (accepted p) e h = (p, e, h)
+  module _ (s : Sized) (o : m ≡ Ok s) where
+    within : (p : Problem) × (Outcome.ground L c ≡ accepted p) × Tabled p s w
+    within = subst (λ (x : P.Result Sized Refusal). GroundsTo (Outcome.ground L c) x w) o g
 
     -- it is the case's, and the table is its
     pub grounds : Outcome.ground L c ≡ accepted (problem_of c)
     grounds = let (p, e, h) = within in e ∙ ap accepted (ground_is L c p e)
 
-    pub tabled : Tabled (problem_of c) m w
-    tabled = let (p, e, h) = within in subst (λ (x : Problem). Tabled x m w) (ground_is L c p e) h
+    pub tabled : Tabled (problem_of c) s w
+    tabled = let (p, e, h) = within in subst (λ (x : Problem). Tabled x s w) (ground_is L c p e) h
 
     pub table_is : Grounded w
     table_is = record { problem = problem_of c; is = tabled.is; fits = tabled.fits }
@@ -111,25 +104,25 @@ module _ (L : CaseLimits) (c : Case) (m : Sized) (w : List ℕ) (g : GroundsTo (
         by_option none q = omega arith
         by_option (some k) q = let n = c.site.size ^ k.arity in ltb-false 8 n (or_both (ltb 8 n) (ltb L.steps (bound (problem_of c))) q).0
 
-    pub atoms_few : m.atoms ≤ L.atoms
+    pub atoms_few : s.atoms ≤ L.atoms
     atoms_few = subst (λ (k : ℕ). k ≤ L.atoms) (sym tabled.atoms_are) (ltb-false L.atoms (atoms (problem_of c)) limits.0)
 
     pub actions_few : actions (problem_of c) ≤ L.actions
     actions_few = ltb-false L.actions (actions (problem_of c)) limits.1
 
     -- the words of its state
-    pub words_are : (m.atoms + 63) / 64 ≡ Outcome.state_length (problem_of c)
+    pub words_are : (s.atoms + 63) / 64 ≡ Outcome.state_length (problem_of c)
     unfolding Outcome.state_length words_for
     words_are = ap (λ (k : ℕ). (k + 63) / 64) tabled.atoms_are
 
-    pub words_fit : (k : ℕ) → (m.atoms + 63) / 64 ≡ k → words_for (atoms_in w) ≤ k
+    pub words_fit : (k : ℕ) → (s.atoms + 63) / 64 ≡ k → words_for (atoms_in w) ≤ k
     unfolding words_for
     words_fit k e = let q : (atoms_in w + 63) / 64 ≡ k = ap (λ (x : ℕ). (x + 63) / 64) (tabled.ends ∙ sym tabled.atoms_are) ∙ e in omega arith
 
     -- what running steps in so many words gives
-    pub ran_of : (s : List ℕ) (opened : Opened) (f steps part new : List ℕ) (e : End) → Holds s c opened (bit f) → (m.atoms + 63) / 64 ≡ length part → Runs w f steps part e new → Ran (problem_of c) steps e new
+    pub ran_of : (text : List ℕ) (opened : Opened) (f steps part new : List ℕ) (e : End) → Holds text c opened (bit f) → (s.atoms + 63) / 64 ≡ length part → Runs w f steps part e new → Ran (problem_of c) steps e new
     unfolding Runs
-    ran_of s opened f steps part new e held l runs = runs (problem_of c) tabled.is tabled.ends (facts_held s c opened f held) (sym l ∙ words_are)
+    ran_of text opened f steps part new e held l runs = runs (problem_of c) tabled.is tabled.ends (facts_held text c opened f held) (sym l ∙ words_are)
 
 -- ---- rooms
 

@@ -1,6 +1,6 @@
 -- Words for the facts: how many hold those of every site, and that few do for one whose first line says a small size.
 use Rattle.std.specs.Prelude.{ℕ, ◌*◌, ◌^◌, ◌≤◌, ◌≡◌, Bool, true, leb, length}
-use Rattle.std.proofs.Common.{sym, ap, subst, ◌∙◌, arith, leb-true}
+use Rattle.std.proofs.Common.{sym, ap, subst, ◌∙◌, arith, leb-true, refl}
 use mathlib.Core.List.{List, [], ◌∷◌, nil≢cons}
 use Rattle.std.proofs.Math.Option.{Option, none, some}
 use Rattle.std.proofs.Math.Nat.{pow-le-pow_left}
@@ -44,6 +44,21 @@ says_small (Member a t k e) = true
 says_small (Fact a t e xs) = true
 says_small (Pick a t e xs) = true
 says_small (Step k) = true
+
+pub no_size_small : (x : Entry) → ((k : ℕ) → x ≡ Size k → ⊥) → true ≡ says_small x
+unfolding says_small
+no_size_small (Size k) h = absurd (h k refl)
+no_size_small Wrong h = refl
+no_size_small (Rel a e k) h = refl
+no_size_small (Typed a e) h = refl
+no_size_small (Choose a e k kind t u v) h = refl
+no_size_small (Every a e k) h = refl
+no_size_small (Rule a e) h = refl
+no_size_small (Label x a t e) h = refl
+no_size_small (Member a t k e) h = refl
+no_size_small (Fact a t e xs) h = refl
+no_size_small (Pick a t e xs) h = refl
+no_size_small (Step k) h = refl
 
 -- the size that an entry says, if it says one
 unfoldable size_said : Option S.Entry → Option ℕ

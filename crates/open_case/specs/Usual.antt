@@ -1,6 +1,6 @@
 -- Whether the usual limits refuse a case, by its tally: for a call that makes no table.
-use Rattle.std.specs.Prelude.{ℕ, ◌≤◌, ◌≡◌}
-use Rattle.std.proofs.Common.{sym, ap, ◌∙◌, arith}
+use Rattle.std.specs.Prelude.{◌≤◌, ◌≡◌, Err}
+use Rattle.std.proofs.Common.{sym, ap, arith}
 use Rattle.definitions.specs.Limits.{usual}
 use Rattle.definitions.specs.Refusal.{refused, accepted}
 use Rattle.definitions.specs.Problem.Truth.{Case, every_tuples}
@@ -10,21 +10,23 @@ use Rattle.definitions.specs.Reply.Outcome.{ground}
 use Rattle.problem_sizes.specs.declared.Tally.{Tally}
 use Rattle.problem_sizes.specs.declared.Limits.{Limits}
 use Rattle.problem_sizes.specs.Sums.{Tallied, refusal_in}
-use Rattle.problem_sizes.specs.Refused.{counts_within, atoms_told, actions_told, grounded_by, refused_by, tuples_within}
+use Rattle.problem_sizes.specs.Refused.{counts_within, atoms_told, actions_told, grounded_by, tuples_within}
+use Rattle.refusal.specs.declared.Refusal.{Refusal}
+use Rattle.refusal.specs.Numbers.{number_of}
+use Rattle.problem_of_case.specs.Grounds.{Within, grounds_over}
 
-module _ (c : Case) (t : Tally) (T : Tallied (problem_of c) t) (l : Limits) (u : l ≡ record { atoms = usual.atoms; actions = usual.actions; steps = usual.steps }) (k : ℕ) (e : k ≡ refusal_in t l) where
-  pub over_usual : (k ≡ 0 → ⊥) → ground usual c ≡ refused k 0
-  over_usual n =
-      refused_by c t T usual l (sym (ap (λ (x : Limits). x.atoms) u)) (sym (ap (λ (x : Limits). x.actions) u)) (sym (ap (λ (x : Limits). x.steps) u)) (λ z. n (e ∙ z))
-      ∙ ap (λ (x : ℕ). refused x 0) (sym e)
+module _ (c : Case) (t : Tally) (T : Tallied (problem_of c) t) (l : Limits) (u : l ≡ record { atoms = usual.atoms; actions = usual.actions; steps = usual.steps }) where
+  pub over_usual : (e : Refusal) → Within t l (Err e) → ground usual c ≡ refused (number_of e.cause) e.place
+  over_usual e w = grounds_over usual l c t (sym (ap (λ (x : Limits). x.atoms) u)) (sym (ap (λ (x : Limits). x.actions) u)) (sym (ap (λ (x : Limits). x.steps) u)) T e w
 
-  pub within_usual : k ≡ 0 → ground usual c ≡ accepted (problem_of c)
-  within_usual z = grounded_by c t T usual l (sym (ap (λ (x : Limits). x.atoms) u)) (sym (ap (λ (x : Limits). x.actions) u)) (sym (ap (λ (x : Limits). x.steps) u)) (sym e ∙ z)
+  module _ (z : refusal_in t l ≡ 0) where
+    pub within_usual : ground usual c ≡ accepted (problem_of c)
+    within_usual = grounded_by c t T usual l (sym (ap (λ (x : Limits). x.atoms) u)) (sym (ap (λ (x : Limits). x.actions) u)) (sym (ap (λ (x : Limits). x.steps) u)) z
 
-  pub few_usual : k ≡ 0 → every_tuples c ≤ 8
-  few_usual z = tuples_within c t T l (sym e ∙ z)
+    pub few_usual : every_tuples c ≤ 8
+    few_usual = tuples_within c t T l z
 
-  pub counts_usual : k ≡ 0 → (atoms (problem_of c) ≤ usual.atoms) × (actions (problem_of c) ≤ usual.actions)
-  counts_usual z =
-      let (a, b) = counts_within t l (sym e ∙ z) in
-      (omega (arith, a, atoms_told c t T, ap (λ (x : Limits). x.atoms) u), omega (arith, b, actions_told c t T, ap (λ (x : Limits). x.actions) u))
+    pub counts_usual : (atoms (problem_of c) ≤ usual.atoms) × (actions (problem_of c) ≤ usual.actions)
+    counts_usual =
+        let (a, b) = counts_within t l z in
+        (omega (arith, a, atoms_told c t T, ap (λ (x : Limits). x.atoms) u), omega (arith, b, actions_told c t T, ap (λ (x : Limits). x.actions) u))

@@ -19,6 +19,7 @@ use problem_of_case::Sized;
 use problem_sizes::Limits;
 use read_line::Entry;
 use read_sheets::Opened;
+use refusal::{Cause, Refusal};
 use step_run::End;
 
 // The most elements, atoms and actions that a case may have, and the most steps that may be lent, or that its bound may be where it has an
@@ -50,18 +51,8 @@ fn says_small(x: Entry) -> bool
     ensures { result ≡ says_small x }
 {
     match x {
-        Entry::Wrong => true,
-        Entry::Rel(_, _, _) => true,
-        Entry::Typed(_, _) => true,
-        Entry::Choose(_, _, _, _, _, _, _) => true,
-        Entry::Every(_, _, _) => true,
-        Entry::Rule(_, _) => true,
         Entry::Size(k) => k <= SMALL,
-        Entry::Label(_, _, _, _) => true,
-        Entry::Member(_, _, _, _) => true,
-        Entry::Fact(_, _, _, _) => true,
-        Entry::Pick(_, _, _, _) => true,
-        Entry::Step(_) => true,
+        _ => true,
     }
 }
 
@@ -69,40 +60,32 @@ fn says_small(x: Entry) -> bool
 pub fn is_small(site: &[u8]) -> bool
     ensures { result ≡ true → FactsRoom site.now 64 512 }
 {
-    if site.len() == 0 {
+    if site.is_empty() {
         return true;
     }
-    let l = read_line::line(site, 0);
-    let x = l.entry;
-    says_small(x)
+    says_small(read_line::line(site, 0).entry)
 }
 
-// All is well, with the step count; or a refusal with its number and place.
-#[derive(Clone, Copy)]
-pub enum Reply {
-    Accepted(usize),
-    Refused(u32, usize),
-}
+// What a call replies: the step count, or why and where it is refused.
+pub type Reply = Result<usize, Refusal>;
 
 // How a run ended, as a reply.
 pub fn reply_of(e: End) -> Reply
     ensures { result_of result ≡ ended e }
 {
     match e {
-        End::Done(i) => Reply::Accepted(i),
-        End::NoAction(i) => Reply::Refused(13, i),
-        End::NotNow(i) => Reply::Refused(14, i),
-        End::NoGoal(i) => Reply::Refused(15, i),
+        End::Done(i) => Ok(i),
+        End::NoAction(i) => Err(Cause::NoAction.at(i)),
+        End::NotNow(i) => Err(Cause::NotNow.at(i)),
+        End::NoGoal(i) => Err(Cause::NoGoal.at(i)),
     }
 }
 
-// A refusal's number and place; or fault 0, what was read of the case, and how large its problem is.
+// What was read of a case, and how large its problem is, or that it is over the limits: `f.m?` tells that in its turn.
 #[derive(Clone, Copy)]
 pub struct Front {
-    pub fault: u32,
-    pub place: usize,
     pub o: Opened,
-    pub m: Sized,
+    pub m: Result<Sized, Refusal>,
 }
 
 // Reads the question and the site, and grounds the case: its labels go to the lent numbers, which come in all 0, its facts to the lent
@@ -116,31 +99,15 @@ pub fn open_filed(
     labels: &mut [usize],
     facts: &mut [u64],
     table: &mut [usize],
-) -> Front
+) -> Result<Front, Refusal>
     requires most_bound { (most ≤ 64) × (limits.atoms ≤ number_limit) × (limits.actions ≤ number_limit) }
     requires facts_room { FactsRoom site.now most (length facts.old) × NoLabels labels.old × (bit facts.old ≡ λ i. false) }
     requires table_len { (length table.old ≡ table_length) × Most table.old 0 }
     ensures { Filed («Limits_of» most limits) question.now site.now result labels.new facts.new table.new }
 {
-    let o = read_sheets::read_filed(question, site, most, labels, facts);
-    let fault = o.fault;
-    if fault != 0 {
-        let place = o.place;
-        let m = Sized {
-            refusal: fault,
-            atoms: 0,
-            actions: 0,
-            bound: 0,
-        };
-        return Front { fault, place, o, m };
-    }
+    let o = read_sheets::read_filed(question, site, most, labels, facts)?;
     let m = problem_of_case::ground_case(question, o, limits, table);
-    Front {
-        fault: 0,
-        place: 0,
-        o,
-        m,
-    }
+    Ok(Front { o, m })
 }
 
 // The limits that all calls but the desk have.
@@ -161,7 +128,7 @@ pub fn open_usual(
     labels: &mut [usize],
     facts: &mut [u64],
     table: &mut [usize],
-) -> Front
+) -> Result<Front, Refusal>
     requires facts_room { FactsRoom site.now 64 (length facts.old) × NoLabels labels.old × (bit facts.old ≡ λ i. false) }
     requires table_len { (length table.old ≡ table_length) × Most table.old 0 }
     ensures { Filed usual question.now site.now result labels.new facts.new table.new }
@@ -171,7 +138,12 @@ pub fn open_usual(
 }
 
 // The same for a call that asks for no label.
-pub fn open_case(question: &[u8], site: &[u8], facts: &mut [u64], table: &mut [usize]) -> Front
+pub fn open_case(
+    question: &[u8],
+    site: &[u8],
+    facts: &mut [u64],
+    table: &mut [usize],
+) -> Result<Front, Refusal>
     requires facts_room { FactsRoom site.now 64 (length facts.old) × (bit facts.old ≡ λ i. false) }
     requires table_len { (length table.old ≡ table_length) × Most table.old 0 }
     ensures { Fronted usual question.now site.now result facts.new table.new }

@@ -1,5 +1,5 @@
 -- What a call answers and leaves that writes a text of the case. Assumes nothing.
-use Rattle.std.specs.Prelude.{ℕ, zero, ◌^◌, ◌≤◌, ◌<◌, ◌≡◌, ltb}
+use Rattle.std.specs.Prelude.{ℕ, zero, ◌^◌, ◌≤◌, ◌<◌, ◌≡◌, ltb, Ok, Err}
 use Rattle.std.proofs.Math.Path.{refl, subst}
 use Rattle.std.proofs.Common.{sym, ap, ◌∙◌, ltb-false}
 use mathlib.Core.List.{List}
@@ -8,18 +8,20 @@ use Rattle.definitions.specs.Limits.{usual, text_limit}
 use Rattle.definitions.specs.Refusal.{Result, refused, accepted, ◌>>=◌, refuse_if, read_text}
 use Rattle.definitions.specs.Sheet.Sheets.{Question, read_question}
 use Rattle.definitions.specs.Problem.Truth.{Case}
-use Rattle.definitions.specs.Reply.Outcome.{nothing, written}
+use Rattle.definitions.specs.Reply.Outcome.{read_case, nothing, written}
 use Rattle.definitions.specs.Reply.Pddl.{ready_for_pddl, fitting, TextWritten, text_from}
 use Rattle.laws.specs.Asked as Order
 use Rattle.laws.specs.Results.{bind_parts, not_refused}
 use Rattle.print_bytes.specs.Emitted.{Emits, measured, whole_written}
 use Rattle.open_case.specs.declared.Front.{Front}
-use Rattle.open_case.specs.declared.Reply.{Reply}
-use Rattle.open_case.specs.declared.Reply.TheVariants.{Accepted as Fine, Refused}
+use Rattle.refusal.specs.declared.Refusal.{Refusal}
+use Rattle.refusal.specs.declared.Cause.TheVariants.{ShortBuffer}
+use Rattle.refusal.specs.Numbers.{number_of}
+use Rattle.problem_of_case.specs.declared.Sized.{Sized}
 use Rattle.open_case.specs.Fronts.{Fronted}
 use Rattle.open_case.specs.Known.{room_short, room_there}
-use Rattle.open_case.specs.Replies.{result_of}
-use Rattle.open_pddl.specs.Gates.{refusal_in, gate_case, gate_refused, gate_passed, its}
+use Rattle.open_case.specs.Replies.{Reply, result_of}
+use Rattle.open_pddl.specs.Gates.{gate, gate_case, gate_refused, gate_passed}
 
 -- an accepted question is no longer than a text may be
 pub question_short : (text : List ℕ) (q : Question) → read_question text ≡ accepted q → length text ≤ text_limit
@@ -40,48 +42,47 @@ module _ (X : Case → List ℕ) where
     abbrev outcome : Result (List ℕ)
     outcome = ready_for_pddl usual question site nothing >>= λ r. fitting (length old) (X r.case)
 
-    refused_with : (k place : ℕ) → outcome ≡ refused k place → Writes question site old (Refused k place) old
-    unfolding told text_from result_of
-    refused_with k place e = (rw e refl, rw e refl)
+    refused_with : (e : Refusal) → outcome ≡ refused (number_of e.cause) e.place → Writes question site old (Err e) old
+    unfolding told text_from
+    refused_with e q = (rw q refl, rw q refl)
 
-    written_with : (bytes : ℕ) (text new : List ℕ) → outcome ≡ accepted text → bytes ≡ length text → new ≡ written text old → Writes question site old (Fine bytes) new
-    unfolding told text_from result_of
+    written_with : (bytes : ℕ) (text new : List ℕ) → outcome ≡ accepted text → bytes ≡ length text → new ≡ written text old → Writes question site old (Ok bytes) new
+    unfolding told text_from
     written_with bytes text new e b w = (rw e (ap accepted b), rw e w)
 
-    module _ (f : Front) (facts table : List ℕ) (front : Fronted usual question site f facts table) where
-      pub writes_case : (f.fault ≡ 0 → ⊥) → Writes question site old (Refused f.fault f.place) old
+    pub writes_case : (e : Refusal) → read_case usual question site ≡ refused (number_of e.cause) e.place → Writes question site old (Err e) old
+    unfolding ◌>>=◌
+    writes_case e h = refused_with e (rw (gate_case question site nothing e h) refl)
+
+    module _ (f : Front) (facts table : List ℕ) (its : Fronted usual question site (Ok f) facts table) where
+      pub writes_gate : (e : Refusal) → Err e ≡ gate f → Writes question site old (Err e) old
       unfolding ◌>>=◌
-      writes_case z = refused_with f.fault f.place (rw (gate_case question site f facts table front nothing z) refl)
+      writes_gate e q = refused_with e (rw (gate_refused question site f facts table its nothing tt (λ r. Order.untested r) e q) refl)
 
-      module _ (z : f.fault ≡ 0) where
-        pub writes_gate : (r : ℕ) → r ≡ refusal_in f → (r ≡ 0 → ⊥) → Writes question site old (Refused r 0) old
+      module _ (m : Sized) (q : Ok m ≡ gate f) where
+        abbrev c : Case
+        c = its.0
+
+        text_is : outcome ≡ fitting (length old) (X c)
         unfolding ◌>>=◌
-        writes_gate r q h = refused_with r 0 (rw (gate_refused question site f facts table front z nothing tt (λ r. Order.untested r) r q h) refl)
+        text_is = rw (gate_passed question site f facts table its nothing tt (λ r. Order.untested r) m q) refl
 
-        module _ (q : 0 ≡ refusal_in f) where
-          abbrev c : Case
-          c = (its question site f facts table front z).0
+        -- what is written is a text that is the case's
+        module _ (text : List ℕ) (same : X c ≡ text) (small : length text < 2 ^ 64) where
+          length_is : (scratch after : List ℕ) (bytes : ℕ) → Emits text scratch 0 after bytes → bytes ≡ length (X c)
+          length_is scratch after bytes e = measured small e ∙ ap length (sym same)
 
-          text_is : outcome ≡ fitting (length old) (X c)
-          unfolding ◌>>=◌
-          text_is = rw (gate_passed question site f facts table front z nothing tt (λ r. Order.untested r) q) refl
+          pub writes_short : (scratch after : List ℕ) (bytes : ℕ) → Emits text scratch 0 after bytes → length old < bytes → Writes question site old (Err (record { cause = ShortBuffer; place = bytes })) old
+          unfolding fitting ◌>>=◌
+          writes_short scratch after bytes e h =
+              let b = length_is scratch after bytes e in
+              let s = room_short (length (X c)) (length old) (subst (λ (k : ℕ). length old < k) b h) in
+              refused_with (record { cause = ShortBuffer; place = bytes }) (text_is ∙ rw s (ap (refused 12) (sym b)))
 
-          -- what is written is a text that is the case's
-          module _ (text : List ℕ) (same : X c ≡ text) (small : length text < 2 ^ 64) where
-            length_is : (scratch after : List ℕ) (bytes : ℕ) → Emits text scratch 0 after bytes → bytes ≡ length (X c)
-            length_is scratch after bytes e = measured small e ∙ ap length (sym same)
-
-            pub writes_short : (scratch after : List ℕ) (bytes : ℕ) → Emits text scratch 0 after bytes → length old < bytes → Writes question site old (Refused 12 bytes) old
-            unfolding fitting ◌>>=◌
-            writes_short scratch after bytes e h =
-                let b = length_is scratch after bytes e in
-                let s = room_short (length (X c)) (length old) (subst (λ (k : ℕ). length old < k) b h) in
-                refused_with 12 bytes (text_is ∙ rw s (ap (refused 12) (sym b)))
-
-            pub writes_all : (scratch after new : List ℕ) (bytes last : ℕ) → Emits text scratch 0 after bytes → Emits text old 0 new last → bytes ≤ length old → Writes question site old (Fine bytes) new
-            unfolding fitting ◌>>=◌
-            writes_all scratch after new bytes last e d h =
-                let b = length_is scratch after bytes e in
-                let l : length (X c) ≤ length old = subst (λ (k : ℕ). k ≤ length old) b h in
-                let s = room_there (length (X c)) (length old) l in
-                written_with bytes (X c) new (text_is ∙ rw s refl) b (subst (λ (t : List ℕ). new ≡ written t old) (sym same) (whole_written (subst (λ (t : List ℕ). length t ≤ length old) same l) d))
+          pub writes_all : (scratch after new : List ℕ) (bytes last : ℕ) → Emits text scratch 0 after bytes → Emits text old 0 new last → bytes ≤ length old → Writes question site old (Ok bytes) new
+          unfolding fitting ◌>>=◌
+          writes_all scratch after new bytes last e d h =
+              let b = length_is scratch after bytes e in
+              let l : length (X c) ≤ length old = subst (λ (k : ℕ). k ≤ length old) b h in
+              let s = room_there (length (X c)) (length old) l in
+              written_with bytes (X c) new (text_is ∙ rw s refl) b (subst (λ (t : List ℕ). new ≡ written t old) (sym same) (whole_written (subst (λ (t : List ℕ). length t ≤ length old) same l) d))

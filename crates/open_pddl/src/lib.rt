@@ -2,25 +2,25 @@
 #![tactic(auto)]
 
 ghost use Rattle.std.specs.Prelude.{◌≡◌};
-ghost use Rattle.open_pddl.specs.Gates.{refusal_in};
+ghost use Rattle.open_pddl.specs.Gates.{gate as «gate_of»};
 
 use open_case::Front;
+use problem_of_case::Sized;
+use refusal::{Cause, Refusal};
 
-// The refusal of a case, place 0, once a third input was read: 22 for a type, 11 or 23, 23 for an `every` line; 0 where there is none.
-pub fn refusal(f: Front) -> u32
-    ensures { result ≡ refusal_in f }
+// How large the case's problem is, once a third input was read. PDDL has no types and no `every` line: such a case is refused, and one that
+// is over the limits, which are told between the two.
+pub fn gate(f: Front) -> Result<Sized, Refusal>
+    ensures { result ≡ «gate_of» f }
 {
     let o = f.o;
     let sig = o.sig;
-    let m = f.m;
     if sig.types != 0 {
-        return 22;
+        return Err(Cause::BeyondPddl.at(0));
     }
-    if m.refusal != 0 {
-        return m.refusal;
-    }
+    let m = f.m?;
     if sig.every != 0 {
-        return 23;
+        return Err(Cause::HasEvery.at(0));
     }
-    0
+    Ok(m)
 }

@@ -7,11 +7,10 @@ use Rattle.std.proofs.Math.ListN.{length, take, drop, length-append}
 use Rattle.std.proofs.Math.Seq.{length-take-le, take-append_seam}
 use borrow.Author.Tests.{lt-ltb, le-ltb}
 use Rattle.definitions.specs.Limits.{CaseLimits, step_limit}
-use Rattle.definitions.specs.Refusal.{Result, refused, accepted, ◌>>=◌, refuse_if}
-use Rattle.definitions.specs.Problem.Truth.{Case}
+use Rattle.definitions.specs.Refusal.{Result, refused, ◌>>=◌, refuse_if}
 use Rattle.definitions.specs.Problem.Atoms.{Problem, State, problem_of, initial, atoms, words_for, state_words}
 use Rattle.definitions.specs.Problem.Strips.{run, run_from}
-use Rattle.definitions.specs.Reply.Outcome.{read_case, asked, nothing, room_for, state_length, written, reply_number, reply_place}
+use Rattle.definitions.specs.Reply.Outcome.{read_case, asked, nothing, room_for, state_length, written}
 use Rattle.laws.specs.Asked
 use Rattle.laws.specs.Alone
 use Rattle.laws.specs.Words.{words_for_lem, state_length_lem}
@@ -23,11 +22,15 @@ use Rattle.step_start.specs.Initial.{Begun as Started}
 use Rattle.step_run.specs.declared.End.{End}
 use Rattle.step_run.specs.Ended.{ended}
 use Rattle.open_case.specs.declared.Front.{Front}
-use Rattle.open_case.specs.Fronts.{Fronted, Held, front_refused, front_held}
+use Rattle.open_case.specs.Fronts.{Fronted}
+use Rattle.open_case.specs.Replies.{Reply, result_of}
 use Rattle.open_case.specs.Known.{case_over, grounds, tabled, table_is, atoms_few, words_are, words_fit, room_short, room_there, facts_held}
-use Rattle.open_tries.specs.declared.Begun.{Begun}
+use Rattle.problem_of_case.specs.declared.Sized.{Sized}
+use Rattle.refusal.specs.declared.Refusal.{Refusal}
+use Rattle.refusal.specs.declared.Cause.TheVariants.{TooLong, ShortBuffer}
+use Rattle.refusal.specs.Numbers.{number_of}
+use Rattle.std.specs.Prelude.{Ok, Err}
 use Rattle.definitions.specs.Reply.Tries.{ready_to_try, try_list}
-use Rattle.open_tries.specs.Verdicts.{verdict_of}
 use Rattle.open_tries.specs.Begun.{BegunBy, ReadyToTry, Serves}
 
 -- ---- a case begins
@@ -35,56 +38,54 @@ append_none : (l : List ℕ) → l ++ [] ≡ l
 append_none [] = refl
 append_none (x ∷ l) = ap (λ (t : List ℕ). x ∷ t) (append_none l)
 
-module _ (L : CaseLimits) (question site old : List ℕ) (many : ℕ) (r : Front) (facts w : List ℕ) (opens : Fronted L question site r facts w) where
+module _ (L : CaseLimits) (question site old facts w : List ℕ) where
   abbrev rooms : Problem → Result (Unit {0})
   rooms p = room_for (state_length p) (length old)
 
-  abbrev Begins : Begun → List ℕ → Type 0
-  Begins b new = BegunBy (ready_to_try L question site (length old)) many old b w new
+  abbrev Begins : Reply → List ℕ → Type 0
+  Begins r new = BegunBy (ready_to_try L question site (length old)) old r w new
 
-  refused_with : (j place : ℕ) → asked L question site nothing nothing nothing rooms ≡ refused j place → (b : Begun) → b ≡ record { number = j; place = place; words = 0; many = 0 } → Begins b old
-  unfolding BegunBy ready_to_try
-  refused_with j place e b eb = rw (eb, e) (record { number = refl; where_it_is = refl; none = refl; state = refl })
+  refused_with : (e : Refusal) → asked L question site nothing nothing nothing rooms ≡ refused (number_of e.cause) e.place → Begins (Err e) old
+  unfolding ready_to_try
+  refused_with e h = (h, refl)
 
-  pub begun_case : (r.fault ≡ 0 → ⊥) → (b : Begun) → b ≡ record { number = r.fault; place = r.place; words = 0; many = 0 } → Begins b old
-  begun_case z = refused_with _ _ (Asked.case_refused L question site nothing nothing nothing rooms _ _ (front_refused L question site r facts w opens z))
+  pub begun_case : (e : Refusal) → read_case L question site ≡ refused (number_of e.cause) e.place → Begins (Err e) old
+  begun_case e h = refused_with e (Asked.case_refused L question site nothing nothing nothing rooms _ _ h)
 
-  module _ (z : r.fault ≡ 0) where
-    -- the case that was read
-    abbrev its : (c : Case) × (read_case L question site ≡ accepted c) × Held L question c r facts w
-    its = front_held L question site r facts w opens z
+  -- the case that was read
+  module _ (r : Front) (its : Fronted L question site (Ok r) facts w) where
+    pub begun_over : (e : Refusal) → r.m ≡ Err e → Begins (Err e) old
+    begun_over e t =
+        let (c, i, h) = its in
+        refused_with e (Alone.limits_refused L question site nothing nothing nothing rooms c i tt (λ _. Asked.untested _) (Asked.untested c) _ _ (case_over L c _ _ h.grounded e t))
 
-    pub begun_over : (r.m.refusal ≡ 0 → ⊥) → (b : Begun) → b ≡ record { number = r.m.refusal; place = 0; words = 0; many = 0 } → Begins b old
-    begun_over t =
-        let (c, e, h) = its in
-        refused_with _ _ (Alone.limits_refused L question site nothing nothing nothing rooms c e tt (λ _. Asked.untested _) (Asked.untested c) _ _ (case_over L c _ _ h.grounded t))
-
-    module _ (f : r.m.refusal ≡ 0) where
+    module _ (m : Sized) (f : r.m ≡ Ok m) where
       abbrev k : ℕ
-      k = (r.m.atoms + 63) / 64
+      k = (m.atoms + 63) / 64
 
       words_of : k ≡ state_length (problem_of its.0)
-      words_of = words_are L its.0 _ _ its.2.grounded f
+      words_of = words_are L its.0 _ _ its.2.grounded _ f
 
-      pub begun_short : length old < k → (b : Begun) → b ≡ record { number = 12; place = k; words = 0; many = 0 } → Begins b old
+      pub begun_short : length old < k → Begins (Err (record { cause = ShortBuffer; place = k })) old
       begun_short l =
           let (c, e, h) = its in
           let short : rooms (problem_of c) ≡ refused 12 k = ap (λ (j : ℕ). room_for j (length old)) (sym words_of) ∙ room_short k (length old) l in
-          refused_with 12 k (Alone.room_refused L question site nothing nothing nothing rooms c e tt (λ _. Asked.untested _) (Asked.untested c) (problem_of c) (grounds L c _ _ h.grounded f) (Asked.untested c) 12 k short)
+          refused_with (record { cause = ShortBuffer; place = k })
+          (Alone.room_refused L question site nothing nothing nothing rooms c e tt (λ _. Asked.untested _) (Asked.untested c) (problem_of c) (grounds L c _ _ h.grounded _ f) (Asked.untested c) 12 k short)
 
-      pub begun_atoms : r.m.atoms ≤ L.atoms
-      begun_atoms = atoms_few L its.0 _ _ its.2.grounded f
+      pub begun_atoms : m.atoms ≤ L.atoms
+      begun_atoms = atoms_few L its.0 _ _ its.2.grounded _ f
 
       pub begun_fits : k ≤ length old → Fits w × (words_for (atoms_in w) ≤ length (take k old))
-      begun_fits l = let (c, e, h) = its in ((table_is L c _ _ h.grounded f).fits, words_fit L c _ _ h.grounded f (length (take k old)) (sym (length-take-le k old l)))
+      begun_fits l = let (c, e, h) = its in ((table_is L c _ _ h.grounded _ f).fits, words_fit L c _ _ h.grounded _ f (length (take k old)) (sym (length-take-le k old l)))
 
       pub begun_ready : L.atoms ≤ 1048576 → k ≤ length old → (part new : List ℕ) → Started w facts (take k old) part → new ≡ part ++ drop k old
-          → Begins (record { number = 0; place = 0; words = k; many = many }) new
-      unfolding BegunBy ready_to_try Started written state_length words_for
+          → Begins (Ok k) new
+      unfolding ready_to_try Started written state_length words_for
       begun_ready few l part new started n =
           let (c, e, h) = its in
           let p : Problem = problem_of c in
-          let t = tabled L c _ _ h.grounded f in
+          let t = tabled L c _ _ h.grounded _ f in
           let q : k ≡ state_length p = words_of in
           let b = room_there (state_length p) (length old) (subst (λ (n : ℕ). n ≤ length old) q l) in
           let s : length (state_words p (initial p)) ≡ state_length p = state_length_lem p (initial p) in
@@ -93,15 +94,15 @@ module _ (L : CaseLimits) (question site old : List ℕ) (many : ℕ) (r : Front
           let its_words : part ≡ state_words p (initial p) = begins.its_words ∙ ap (λ (r : List ℕ). state_words p (initial p) ++ r) (drop_of_length-le (take k old) {i = length (state_words p (initial p))} (omega (arith, lk, s, q))) ∙ append_none (state_words p (initial p)) in
           let lp : length part ≡ k = ap (λ (r : List ℕ). length r) its_words ∙ s ∙ sym q in
           let front : take k new ≡ part = ap₂ take (sym lp) n ∙ take-append_seam part (drop k old) in
-          let there : k ≤ length new = let ln : length new ≡ length part + length (drop k old) = ap (λ (r : List ℕ). length r) n ∙ length-append part (drop k old) in omega (arith, ln, lp) in
-          rw (Alone.ready L question site nothing nothing nothing rooms c e tt (λ _. Asked.untested _) (Asked.untested c) p (grounds L c _ _ h.grounded f) (Asked.untested c) b) (record {
-            number = refl;
-            no_place = refl;
-            all = refl;
-            state = n ∙ ap₂ (λ (r : List ℕ) (j : ℕ). r ++ drop j old) its_words (q ∙ sym s);
-            ready = record { grounded = table_is L c _ _ h.grounded f; there = there; few = omega (arith, few, begun_atoms) };
-            serves = record { is = t.is; room = subst (λ (j : ℕ). atoms p ≤ 64 * j) (sym q) (words_for_lem (atoms p)).0; begins = ap bit front ∙ begins.exact (lk ∙ q) };
-          })
+          let there : k ≤ length new = let ln : length new ≡ length part + length (drop k old) = ap (λ (r : List ℕ). length r) n ∙ length-append part (drop k old) in omega (arith, ln, lp) in (
+            _,
+            Alone.ready L question site nothing nothing nothing rooms c e tt (λ _. Asked.untested _) (Asked.untested c) p (grounds L c _ _ h.grounded _ f) (Asked.untested c) b,
+            record {
+              state = n ∙ ap₂ (λ (r : List ℕ) (j : ℕ). r ++ drop j old) its_words (q ∙ sym s);
+              ready = record { grounded = table_is L c _ _ h.grounded _ f; there = there; few = omega (arith, few, begun_atoms) };
+              serves = record { is = t.is; room = subst (λ (j : ℕ). atoms p ≤ 64 * j) (sym q) (words_for_lem (atoms p)).0; begins = ap bit front ∙ begins.exact (lk ∙ q) };
+            },
+          )
 
 -- ---- one list
 module _ (w state old copied : List ℕ) (words : ℕ) (ready : ReadyToTry w state words) (c : copied ≡ written (take words state) old) where
@@ -118,30 +119,25 @@ module _ (w state old copied : List ℕ) (words : ℕ) (ready : ReadyToTry w sta
   -- so a run in it is a run from the initial state
   pub copy_ran : (p : Problem) → Serves p w state words → (steps : List ℕ) (e : End)
       → ((p : Problem) → Is p w → atoms p ≤ 64 * length (take words copied) → (ended e ≡ (run_from p (bit (take words copied)) 0 steps).answer) × Unit {0})
-      → verdict_of (ended e) ≡ verdict_of (run p steps).answer
+      → ended e ≡ (run p steps).answer
   unfolding run
   copy_ran p serves steps e ran =
       let r = (ran p serves.is (subst (λ (j : ℕ). atoms p ≤ 64 * j) list_there serves.room)).0 in
       let b : bit (take words copied) ≡ initial p = ap bit same ∙ serves.begins in
-      ap verdict_of (r ∙ ap (λ (s : State). (run_from p s 0 steps).answer) b)
+      r ∙ ap (λ (s : State). (run_from p s 0 steps).answer) b
 
 module _ (p : Problem) (steps : List ℕ) (first count : ℕ) where
-  pub list_long : step_limit < count → record { number = 1; place = 0 } ≡ verdict_of (try_list p steps first count)
-  unfolding verdict_of try_list refuse_if ◌>>=◌ reply_number reply_place
+  pub list_long : step_limit < count → result_of (Err (record { cause = TooLong; place = 0 })) ≡ try_list p steps first count
+  unfolding try_list refuse_if ◌>>=◌
   list_long l = rw (lt-ltb step_limit count l) refl
 
-  -- from and many are the two numbers, widened
-  module _ (l : count ≤ step_limit) (from many : ℕ) (ef : from ≡ first) (em : many ≡ count) where
-    pub list_outside : length steps < from + many → record { number = 12; place = from + many } ≡ verdict_of (try_list p steps first count)
-    unfolding verdict_of try_list refuse_if room_for ◌>>=◌ reply_number reply_place
-    list_outside o =
-        let e : from + many ≡ first + count = ap₂ (λ (a b : ℕ). a + b) ef em in
-        rw (le-ltb step_limit count l, lt-ltb (length steps) (first + count) (subst (λ (k : ℕ). length steps < k) e o)) (ap (λ (k : ℕ). record { number = 12; place = k }) e)
+  module _ (l : count ≤ step_limit) where
+    pub list_outside : length steps < first + count → result_of (Err (record { cause = ShortBuffer; place = first + count })) ≡ try_list p steps first count
+    unfolding try_list refuse_if room_for ◌>>=◌
+    list_outside o = rw (le-ltb step_limit count l, lt-ltb (length steps) (first + count) o) refl
 
-    pub list_ran : from + many ≤ length steps → verdict_of (run p (take (from + many - from) (drop from steps))).answer ≡ verdict_of (try_list p steps first count)
+    pub list_ran : first + count ≤ length steps → (run p (take (first + count - first) (drop first steps))).answer ≡ try_list p steps first count
     unfolding try_list refuse_if room_for ◌>>=◌
     list_ran i =
-        let s : from + many ≡ first + count = ap₂ (λ (a b : ℕ). a + b) ef em in
-        let m : from + many - from ≡ count = omega (arith, em) in
-        rw (le-ltb step_limit count l, le-ltb (length steps) (first + count) (subst (λ (k : ℕ). k ≤ length steps) s i))
-        (ap (λ (j : ℕ). verdict_of (run p (take j (drop from steps))).answer) m ∙ ap (λ (j : ℕ). verdict_of (run p (take count (drop j steps))).answer) ef)
+        let m : first + count - first ≡ count = omega arith in
+        rw (le-ltb step_limit count l, le-ltb (length steps) (first + count) i) (ap (λ (j : ℕ). (run p (take j (drop first steps))).answer) m)

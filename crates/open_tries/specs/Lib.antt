@@ -1,4 +1,3 @@
 -- Words of this crate's contracts.
-pub mod Verdicts
 pub mod Begun
 pub mod Laws

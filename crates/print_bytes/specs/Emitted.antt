@@ -1,13 +1,11 @@
 -- A text written into a lent table of bytes from a place on, as much of it as fits; and the place after all of it, whether it fits or not.
 -- So a text is measured by writing it into an empty table. Assumes nothing.
-use Rattle.std.specs.Prelude.{ℕ, zero, suc, ◌+◌, ◌-◌, ◌/◌, ◌%◌, ◌^◌, ◌≤◌, ◌<◌, min, ◌≡◌, refl, Bool, true, false, List, [], ◌∷◌, ◌++◌, ltb, length, take, drop, set}
-use Rattle.std.proofs.Common.{sym, ap, subst, ◌∙◌, add-zero, arith, ltb-true, ltb-false, length-append}
-use Rattle.definitions.specs.Sheet.Text.{decimal}
+use Rattle.std.specs.Prelude.{ℕ, zero, suc, ◌+◌, ◌-◌, ◌/◌, ◌%◌, ◌^◌, ◌≤◌, ◌<◌, min, ◌≡◌, refl, Bool, true, false, List, [], ◌∷◌, ◌++◌, ltb, leb, if◌then◌else◌, length, take, drop, set}
+use Rattle.std.proofs.Common.{sym, ap, subst, ◌∙◌, add-zero, arith, ltb-true, ltb-false, take-append-drop, length-take, drop_of_length-le, take_at, length-append}
+use Rattle.definitions.specs.Sheet.Text.{decimal_in, decimal}
 use Rattle.definitions.specs.Reply.Outcome.{written}
 use Rattle.definitions.specs.Reply.Page.{spaces, left, right}
-use Rattle.print_line.specs.Printed.{print, print_is, print_length, print_parts, print_none}
-use Rattle.laws.specs.Decimals.{decimal_length}
-use Rattle.print_line.specs.Decimals.{decimal_small, decimal_large}
+use Rattle.print_line.specs.Printed.{Prints, print, print_is, print_length, print_parts, print_none}
 
 -- a place counts on past the table's end, up to the largest number of 64 bits
 unfoldable pub counted : ℕ → ℕ
@@ -37,21 +35,39 @@ print_counted text old k h = by_size (ltb k (2 ^ 64)) refl
     by_size true q = let l = ltb-true k (2 ^ 64) q in let e : min k (2 ^ 64 - 1) ≡ k = omega arith in ap (λ (i : ℕ). print old i text) e
     by_size false q = let l = ltb-false k (2 ^ 64) q in print_past text old (min k (2 ^ 64 - 1)) (omega arith) ∙ sym (print_past text old k (omega arith))
 
--- ---- one byte: where there is room, past the end, and past all places
-pub byte_stored : (old : List ℕ) (at b : ℕ) → at < length old → length old < 2 ^ 64 → Emits (b ∷ []) old at (set old at b) (at + 1)
+-- ---- one byte: where there is room, and past the end
+pub byte_stored : (old : List ℕ) (at b next : ℕ) → next ≡ min (at + 1) (2 ^ 64 - 1) → Emits (b ∷ []) old at (set old at b) next
 unfolding print counted
-byte_stored old at b h l = record { place = omega arith; table = refl }
+byte_stored old at b next e = record { place = e; table = refl }
 
-pub byte_dropped : (old : List ℕ) (at next b : ℕ) → length old ≤ at → next ≡ counted (at + 1) → Emits (b ∷ []) old at old next
-byte_dropped old at next b h e = record { place = e; table = sym (print_past (b ∷ []) old at h) }
-
-pub counted_next : (at : ℕ) → at < 2 ^ 64 - 1 → at + 1 ≡ counted (at + 1)
+pub byte_dropped : (old : List ℕ) (at b next : ℕ) → length old ≤ at → next ≡ min (at + 1) (2 ^ 64 - 1) → Emits (b ∷ []) old at old next
 unfolding counted
-counted_next at h = omega arith
+byte_dropped old at b next h e = record { place = e; table = sym (print_past (b ∷ []) old at h) }
 
-pub counted_last : (at : ℕ) → 2 ^ 64 - 1 ≤ at → at < 2 ^ 64 → at ≡ counted (at + 1)
+-- ---- a text: as much of it as fits is printed
+pub fits_as : (text old : List ℕ) (at k : ℕ) → at ≤ length old → k ≡ min (length text) (length old - at) → print old at text ≡ print old at (take k text)
+fits_as text old at k h e =
+    let c : text ≡ take k text ++ drop k text = sym (take-append-drop k text) in
+    let q = print_length old at (take k text) in
+    ap (print old at) c ∙ print_parts (take k text) (drop k text) old at ∙ by_test (ltb k (length text)) refl q
+  where
+    by_test : (b : Bool) → ltb k (length text) ≡ b → length (print old at (take k text)) ≡ length old → print (print old at (take k text)) (at + length (take k text)) (drop k text) ≡ print old at (take k text)
+    by_test true l q = let m = ltb-true k (length text) l in print_past (drop k text) _ _ (omega (arith, length-take k text))
+    by_test false l q = let m = ltb-false k (length text) l in rw (drop_of_length-le text {i = k} m) (print_none _ _)
+
+pub emits_text : {text old new : List ℕ} {at next k place : ℕ} → at ≤ length old → k ≡ min (length text) (length old - at) → next ≡ min (at + length text) (2 ^ 64 - 1) → Prints (take k text) old at new place → Emits text old at new next
 unfolding counted
-counted_last at h l = omega arith
+emits_text {text} {old} {at = at} h e n p = record { place = n; table = p.table ∙ sym (fits_as text old at _ h e) }
+
+pub emits_past : {text old : List ℕ} {at next : ℕ} → length old ≤ at → next ≡ min (at + length text) (2 ^ 64 - 1) → Emits text old at old next
+unfolding counted
+emits_past {text} {old} {at} h n = record { place = n; table = sym (print_past text old at h) }
+
+-- what is printed into a table from the front on stands at the front
+pub printed_front : {text old new : List ℕ} {next : ℕ} → length text ≤ length old → Prints text old 0 new next → (next ≡ length text) × (take next new ≡ text)
+printed_front {text} {old} {new} {next} h p =
+    let z : next ≡ length text = omega (arith, p.place) in
+    (z, rw z (ap (take (length text)) (p.table ∙ print_is old 0 text (omega arith)) ∙ take_at text _ _ refl))
 
 -- ---- A text is written part by part: `rest` is still to be written into `table` from `at` on, so that the whole stands in `old`
 -- from `from` on. `begin`, then `next` for each part, then `finish`.
@@ -147,11 +163,15 @@ unfolding right
 right_is k j text e = rw e
 
 -- ---- how many digits a number has
-pub fewer_digits : (k : ℕ) → 9 < k → k < 2 ^ 64 → length (decimal k) ≡ length (decimal (k / 10)) + 1
-fewer_digits k h l = rw (decimal_large k h l, length-append (decimal (k / 10)) ((k % 10 + 48) ∷ []))
+few_of : (k n : ℕ) → length (decimal_in k n) ≤ k
+unfolding decimal_in
+few_of zero n = omega arith
+few_of (suc k) n = by_test (leb n 9) (few_of k (n / 10))
+  where
+    by_test : (b : Bool) → length (decimal_in k (n / 10)) ≤ k → length (if b then (n + 48) ∷ [] else decimal_in k (n / 10) ++ ((n % 10 + 48) ∷ [])) ≤ suc k
+    by_test true h = omega arith
+    by_test false h = omega (arith, length-append (decimal_in k (n / 10)) ((n % 10 + 48) ∷ []))
 
-pub one_digit : (k : ℕ) → k ≤ 9 → length (decimal k) ≡ 1
-one_digit k h = ap length (decimal_small k h)
-
-pub few_digits : (k : ℕ) → k < 2 ^ 64 → length (decimal k) ≤ 20
-few_digits k h = decimal_length 19 k (omega arith)
+pub few_digits : (k : ℕ) → length (decimal k) ≤ 20
+unfolding decimal
+few_digits k = few_of 20 k

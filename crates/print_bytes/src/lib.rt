@@ -8,81 +8,55 @@ ghost use Rattle.definitions.specs.Sheet.Text.{decimal as «decimal_of»};
 ghost use Rattle.definitions.specs.Reply.Page.{spaces as «spaces_of», left as «left_of», right as «right_of»};
 ghost use Rattle.print_bytes.specs.Emitted.{Emits};
 
-// The largest place.
-const LAST: usize = 18446744073709551615;
-
 // One byte.
 pub fn byte(out: &mut [u8], at: usize, b: u8) -> usize
     ensures { Emits (b ∷ []) out.old at out.new result }
 {
     if at < out.len() {
         out[at] = b;
-        return at + 1;
     }
-    if at < LAST {
-        return at + 1;
-    }
-    at
+    at.saturating_add(1)
 }
 
 // The bytes of s: a word, a name, or a part of another text.
 pub fn text(out: &mut [u8], at: usize, s: &[u8]) -> usize
     ensures { Emits s.now out.old at out.new result }
 {
-    let mut i = 0;
-    let mut next = at;
-    while i < s.len() {
-        next = byte(out, next, s[i]);
-        i += 1;
+    if at < out.len() {
+        let fits = s.len().min(out.len() - at);
+        print_line::text(out, at, &s[..fits]);
     }
-    next
+    at.saturating_add(s.len())
 }
 
 // So many spaces.
 pub fn spaces(out: &mut [u8], at: usize, count: usize) -> usize
     ensures { Emits («spaces_of» count) out.old at out.new result }
 {
-    let mut left = count;
     let mut next = at;
-    while 0 < left {
+    for _left in (0..count).rev() {
         next = byte(out, next, 32);
-        left -= 1;
     }
     next
 }
 
-// A number in decimal: the digits before the last, then the last.
+// No number of 64 bits has more digits.
+const DIGITS: usize = 20;
+
+// A number in decimal.
 pub fn decimal(out: &mut [u8], at: usize, k: usize) -> usize
     ensures { Emits («decimal_of» k) out.old at out.new result }
 {
-    if k <= 9 {
-        return byte(out, at, (k + 48) as u8);
-    }
-    let last = decimal(out, at, k / 10);
-    byte(out, last, (k % 10 + 48) as u8)
+    let mut digits = [0u8; DIGITS];
+    let count = print_line::decimal(&mut digits, 0, k);
+    text(out, at, &digits[..count])
 }
 
 // How many digits a number has.
 pub fn digits(k: usize) -> usize
     ensures { result ≡ length («decimal_of» k) }
 {
-    let mut left = k;
-    let mut count = 1;
-    while 9 < left {
-        left = left / 10;
-        count += 1;
-    }
-    count
-}
-
-// By how much a is more than b.
-pub fn over(a: usize, b: usize) -> usize
-    ensures { result ≡ a - b }
-{
-    if b < a {
-        return a - b;
-    }
-    0
+    print_line::decimal(&mut [0u8; DIGITS], 0, k)
 }
 
 // A text in so many columns, left, then spaces.
@@ -90,7 +64,7 @@ pub fn left(out: &mut [u8], at: usize, columns: usize, s: &[u8]) -> usize
     ensures { Emits («left_of» columns s.now) out.old at out.new result }
 {
     let next = text(out, at, s);
-    spaces(out, next, over(columns, s.len()))
+    spaces(out, next, columns.saturating_sub(s.len()))
 }
 
 // A number in so many columns, left.
@@ -98,13 +72,13 @@ pub fn left_number(out: &mut [u8], at: usize, columns: usize, k: usize) -> usize
     ensures { Emits («left_of» columns («decimal_of» k)) out.old at out.new result }
 {
     let next = decimal(out, at, k);
-    spaces(out, next, over(columns, digits(k)))
+    spaces(out, next, columns.saturating_sub(digits(k)))
 }
 
 // A number in so many columns, right.
 pub fn right(out: &mut [u8], at: usize, columns: usize, k: usize) -> usize
     ensures { Emits («right_of» columns («decimal_of» k)) out.old at out.new result }
 {
-    let next = spaces(out, at, over(columns, digits(k)));
+    let next = spaces(out, at, columns.saturating_sub(digits(k)));
     decimal(out, next, k)
 }

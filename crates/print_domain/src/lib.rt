@@ -100,6 +100,8 @@ fn relation_lines(
     )
 }
 
+// This loop, and those of `set_schemas`, `kids` and `or_schemas`, differ in the call that they make for each number. One loop that took the call
+// as a closure would need a contract that is longer than the four.
 fn relations_lines(
     out: &mut [u8],
     at: usize,
@@ -110,11 +112,9 @@ fn relations_lines(
     requires { Names question.now names.now × RelationsKnown g }
     ensures { Emits (relations_lines question.now names.now g) out.old at out.new result }
 {
-    let mut r: usize = 0;
     let mut next = at;
-    while r < g.count {
+    for r in 0..g.count {
         next = relation_lines(out, next, question, names, r, g.arity[r], g.kind[r]);
-        r += 1;
     }
     next
 }
@@ -135,9 +135,8 @@ fn nodes_lines(out: &mut [u8], at: usize, question: &[u8], names: &[usize], t: N
     requires { Names question.now names.now × Fits t }
     ensures { Emits (nodes_lines question.now names.now t) out.old at out.new result }
 {
-    let mut v: usize = 0;
     let mut next = at;
-    while v < t.count {
+    for v in 0..t.count {
         let row = t.rows[v];
         let w = Word {
             kind: 4,
@@ -146,7 +145,6 @@ fn nodes_lines(out: &mut [u8], at: usize, question: &[u8], names: &[usize], t: N
         };
         let places = print_words::parameters(node_places(row));
         next = print_words::line(out, next, question, names, w, places);
-        v += 1;
     }
     next
 }
@@ -158,12 +156,10 @@ fn further(out: &mut [u8], at: usize, count: usize) -> usize
     requires { count ≤ 6 }
     ensures { Emits (write_each parameter_word (from 1 (count - 1))) out.old at out.new result }
 {
-    let mut i: usize = 1;
     let mut next = at;
-    while i < count {
+    for i in 1..count {
         let spaced = print_bytes::byte(out, next, 32);
         next = print_words::parameter_word(out, spaced, i);
-        i += 1;
     }
     next
 }
@@ -349,11 +345,9 @@ fn set_schemas(out: &mut [u8], at: usize, question: &[u8], names: &[usize], g: R
     requires { Names question.now names.now × RelationsKnown g }
     ensures { Emits (sets_text question.now names.now g) out.old at out.new result }
 {
-    let mut r: usize = 0;
     let mut next = at;
-    while r < g.count {
+    for r in 0..g.count {
         next = set_if(out, next, question, names, r, g.arity[r], g.kind[r]);
-        r += 1;
     }
     next
 }
@@ -366,10 +360,8 @@ fn env_of(row: NodeRow, end: usize) -> Env
     ensures { (result.at ≡ env_of row) × (result.end ≡ end) }
 {
     let levels = row.levels;
-    let mut i = rule_nodes::wide(row.width);
     let mut terms = [8usize; 4];
-    while 0 < i {
-        i -= 1;
+    for i in (0..rule_nodes::wide(row.width)).rev() {
         let l = rule_nodes::wide(levels[i]);
         terms[l] = i;
     }
@@ -398,11 +390,9 @@ fn part_terms(q: PartRow, e: Env) -> Terms
     let levels = q.levels;
     let env = e.at;
     let mut t = print_words::parameters(0);
-    let mut i: usize = 0;
-    while i < width {
+    for i in 0..width {
         let l = rule_nodes::wide(levels[i]);
         t = print_words::with_term(t, env[l]);
-        i += 1;
     }
     if q.tag == 2 {
         return print_words::with_term(t, e.end);
@@ -502,11 +492,9 @@ fn kids(
 {
     let row = t.rows[v];
     let many = rule_nodes::wide(row.many);
-    let mut k: usize = 0;
     let mut next = at;
-    while k < many {
+    for k in 0..many {
         next = kid(out, next, question, names, t, v, k, end);
-        k += 1;
     }
     next
 }
@@ -578,11 +566,9 @@ fn or_schemas(
 {
     let row = t.rows[v];
     let many = rule_nodes::wide(row.many);
-    let mut i: usize = 0;
     let mut next = at;
-    while i < many {
+    for i in 0..many {
         next = or_schema(out, next, question, names, t, v, i, end);
-        i += 1;
     }
     next
 }
@@ -749,11 +735,9 @@ fn nodes_schemas(
     requires { Names question.now names.now × Fits t × Bounded t }
     ensures { Emits (nodes_text question.now names.now t end) out.old at out.new result }
 {
-    let mut v: usize = 0;
     let mut next = at;
-    while v < t.count {
+    for v in 0..t.count {
         next = node_schemas(out, next, question, names, t, v, end);
-        v += 1;
     }
     next
 }

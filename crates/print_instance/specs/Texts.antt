@@ -1,5 +1,6 @@
 -- What is written of tuples and relations, by the names, the facts' words and the relations by number. Assumes nothing.
 use Rattle.std.specs.Prelude.{ℕ, zero, suc, ◌+◌, ◌-◌, ◌*◌, ◌/◌, ◌%◌, ◌^◌, ◌≤◌, ◌<◌, ◌≡◌, refl, Bool, true, false, not, List, [], ◌∷◌, ◌++◌, map, ltb, get_or, if◌then◌else◌}
+use mathlib.Core.Bool.{beq}
 use Rattle.std.proofs.Common.{sym, ap, ap₂, subst, ◌∙◌, arith, pow-suc, one-mul, mul-le-mul, le_refl, mod-eq_of_lt, mod-lt, div-one, add-one, lt-ltb, le-ltb}
 use Rattle.std.proofs.lemmas.List.{map-append}
 use Rattle.std.proofs.Math.Nat.{pow-zero}
@@ -135,13 +136,12 @@ pub so_pair : (f : List ℕ) (k : Known) (before z : ℕ) → k.r < 3 → z < k.
 so_pair f k before z h l =
     ap₂ (built_in_holds k.n k.r) (sym (digits_div before l)) (sym (digits_mod before l)) ∙ is_pair f k.n k.r k.kind k.first (before * k.n + z) h
 
-pub agree_true : (a b : Bool) → a ≡ true → b ≡ agree a b
+pub agree_is : (a b : Bool) → beq a b ≡ agree a b
 unfolding agree
-agree_true a b e = rw e refl
-
-pub agree_false : (a b : Bool) → a ≡ false → not b ≡ agree a b
-unfolding agree
-agree_false a b e = rw e refl
+agree_is true true = refl
+agree_is true false = refl
+agree_is false true = refl
+agree_is false false = refl
 
 pub word_held : (b : Bool) (r : ℕ) → b ≡ true → relation_word 0 r ≡ word_for b r
 unfolding word_for

@@ -29,7 +29,8 @@ pub struct Known {
     pub holds: bool,
 }
 
-// Whether a built-in relation holds of x, and of y where it has two places.
+// Whether a built-in relation holds of x, and of y where it has two places. `eval_rule` has the same for its walk over values; writing stands
+// on no crate that evaluates.
 fn built_in(n: usize, r: usize, x: usize, y: usize) -> bool
     requires { (r < 5) × (x < 2 ^ 40) }
     ensures { result ≡ built_in_holds n r x y }
@@ -49,16 +50,6 @@ fn built_in(n: usize, r: usize, x: usize, y: usize) -> bool
     x + 1 == n
 }
 
-// A bit of the facts; past their end it is clear.
-fn fact(facts: &[u64], i: usize) -> bool
-    ensures { result ≡ bit facts.now i }
-{
-    if i / 64 < facts.len() {
-        return bits::get(facts, i);
-    }
-    false
-}
-
 // Whether the tuple of a row holds while nothing is picked. The row is that of z, its last place, among those with the same places before.
 fn is_so(facts: &[u64], k: Known, before: usize, z: usize) -> bool
     requires { KnownFits k × (before < 2 ^ 32) × (z < k.n) }
@@ -72,18 +63,9 @@ fn is_so(facts: &[u64], k: Known, before: usize, z: usize) -> bool
         return built_in(k.n, k.r, row, 0);
     }
     if k.kind == 0 {
-        return fact(facts, 64 * k.first + row);
+        return problem_table::test(facts, 64 * k.first + row);
     }
     false
-}
-
-fn agrees(a: bool, b: bool) -> bool
-    ensures { result ≡ agree a b }
-{
-    if a {
-        return b;
-    }
-    !b
 }
 
 // A line where `is` says so.
@@ -154,13 +136,11 @@ fn run(
 {
     let t = places(k.n, k.arity - 1, before);
     let w = word_for(k.holds, k.r);
-    let mut z: usize = 0;
     let mut next = at;
-    while z < k.n {
-        let is = agrees(is_so(facts, k, before, z), k.holds);
+    for z in 0..k.n {
+        let is = is_so(facts, k, before, z) == k.holds;
         let whole = print_words::with_term(t, 8 + z);
         next = line_if(out, next, question, names, w, whole, is);
-        z += 1;
     }
     next
 }
@@ -178,11 +158,9 @@ fn tuples(
     ensures { Emits (tuples_text question.now names.now facts.now k) out.old at out.new result }
 {
     let runs = rows::power(k.n, k.arity - 1);
-    let mut before: usize = 0;
     let mut next = at;
-    while before < runs {
+    for before in 0..runs {
         next = run(out, next, question, names, facts, k, before);
-        before += 1;
     }
     next
 }
@@ -193,12 +171,10 @@ fn elements(out: &mut [u8], at: usize, question: &[u8], names: &[usize], w: Word
     ensures { Emits (flat_map (elements_text question.now names.now w) (below n)) out.old at out.new result }
 {
     let none = print_words::parameters(0);
-    let mut x: usize = 0;
     let mut next = at;
-    while x < n {
+    for x in 0..n {
         let only = print_words::with_term(none, 8 + x);
         next = print_words::line(out, next, question, names, w, only);
-        x += 1;
     }
     next
 }
@@ -253,14 +229,7 @@ fn relation(
     ensures { Emits (relation_text question.now names.now facts.now k) out.old at out.new result }
 {
     let held = tuples(out, at, question, names, facts, k);
-    let others = Known {
-        n: k.n,
-        r: k.r,
-        arity: k.arity,
-        kind: k.kind,
-        first: k.first,
-        holds: false,
-    };
+    let others = Known { holds: false, ..k };
     let not = tuples(out, held, question, names, facts, others);
     let firsts = Word {
         kind: 2,
@@ -302,9 +271,8 @@ fn relations(
     ensures { Emits (relations_text question.now names.now facts.now n g) out.old at out.new result }
 {
     let mut first: usize = 0;
-    let mut r: usize = 0;
     let mut next = at;
-    while r < g.count {
+    for r in 0..g.count {
         let arity = g.arity[r];
         let k = Known {
             n,
@@ -316,7 +284,6 @@ fn relations(
         };
         next = relation(out, next, question, names, facts, k);
         first += words(n, r, arity);
-        r += 1;
     }
     next
 }
@@ -326,12 +293,10 @@ fn objects(out: &mut [u8], at: usize, n: usize) -> usize
     requires { n ≤ 64 }
     ensures { Emits (write_each (λ v. v) (map object_word (from 1 (n - 2)))) out.old at out.new result }
 {
-    let mut x: usize = 1;
     let mut next = at;
-    while x + 1 < n {
+    for x in 1..n.saturating_sub(1) {
         let spaced = print_bytes::byte(out, next, 32);
         next = print_names::object_word(out, spaced, x);
-        x += 1;
     }
     next
 }

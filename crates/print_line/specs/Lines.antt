@@ -5,7 +5,7 @@ use Rattle.std.proofs.Math.Path.{refl, ap}
 use Rattle.std.proofs.Common.{sym, ◌∙◌, add-one, pow-suc, mul-div_cancel, drop_of_length-le, drop-cons}
 use mathlib.Core.List.{List, [], ◌∷◌, ◌++◌, map, append_assoc}
 use native.Mathlib.Omega.{arith}
-use Rattle.std.proofs.Math.Seq.{slice, slice-cons, slice_empty, take-nil}
+use Rattle.std.proofs.Math.Seq.{slice, take-nil}
 use Rattle.definitions.specs.Lists.{flat_map}
 use Rattle.definitions.specs.Sheet.Text.{bytes, decimal}
 use Rattle.definitions.specs.Reply.Outcome.{Sizes}
@@ -91,6 +91,24 @@ unfolding print_line element elements flat_map
 fields_is site labels f [] = refl
 fields_is site labels f (x ∷ xs) = ap (λ (t : List ℕ). f ++ (9 ∷ t)) (fields_is site labels (said_by site labels x) xs ∙ sym (append_assoc (said_by site labels x) (elements site labels xs) (10 ∷ [])))
 
+-- ---- a line of a word and numbers, a field each
+unfoldable pub fields : List ℕ → List ℕ
+fields ks = flat_map field ks
+
+pub line_is : (word ks : List ℕ) → print_line (word ∷ map decimal ks) ≡ word ++ (fields ks ++ (10 ∷ []))
+unfolding print_line field flat_map fields
+line_is word [] = refl
+line_is word (k ∷ ks) = ap (λ (t : List ℕ). word ++ (9 ∷ t)) (line_is (decimal k) ks ∙ sym (append_assoc (decimal k) (fields ks) (10 ∷ [])))
+
+-- the fields that are left, and the line's end
+pub next_field : (ks : List ℕ) (i : ℕ) → i < length ks → fields (drop i ks) ++ (10 ∷ []) ≡ field (get_or ks i 0) ++ (fields (drop (i + 1) ks) ++ (10 ∷ []))
+unfolding flat_map fields
+next_field ks i h = ap (λ (l : List ℕ). fields l ++ (10 ∷ [])) (next_byte ks i h) ∙ append_assoc (field (get_or ks i 0)) (fields (drop (i + 1) ks)) (10 ∷ [])
+
+pub no_field : (ks : List ℕ) (i : ℕ) → length ks ≤ i → fields (drop i ks) ++ (10 ∷ []) ≡ 10 ∷ []
+unfolding flat_map fields
+no_field ks i h = ap (λ (l : List ℕ). fields l ++ (10 ∷ [])) (no_byte ks i h)
+
 -- ---- the lines, their words byte by byte
 
 pub no_is : (k place : ℕ) → print_line (bytes "no" ∷ decimal k ∷ decimal place ∷ []) ≡ (110 ∷ 111 ∷ []) ++ (field k ++ (field place ++ (10 ∷ [])))
@@ -138,10 +156,10 @@ narrower n (suc k) w p h e =
 
 -- ---- steps, one line after another
 
-pub first_step : (ks : List ℕ) (i n k : ℕ) → k ≡ get_or ks i 0 → i < n → n ≤ length ks → flat_map step_line (slice i n ks) ≡ step_line k ++ flat_map step_line (slice (i + 1) n ks)
+pub first_step : (ks : List ℕ) (i : ℕ) → i < length ks → flat_map step_line (drop i ks) ≡ step_line (get_or ks i 0) ++ flat_map step_line (drop (i + 1) ks)
 unfolding flat_map
-first_step ks i n k q h l = let e : slice i n ks ≡ k ∷ slice (i + 1) n ks = rw (q, add-one, slice-cons i n ks 0) in ap (flat_map step_line) e
+first_step ks i h = ap (flat_map step_line) (next_byte ks i h)
 
-pub no_step : (ks : List ℕ) (i n : ℕ) → n ≤ i → i ≤ n → flat_map step_line (slice i n ks) ≡ []
+pub no_step : (ks : List ℕ) (i : ℕ) → length ks ≤ i → flat_map step_line (drop i ks) ≡ []
 unfolding flat_map
-no_step ks i n h l = let e : i ≡ n = omega arith in let d : slice i n ks ≡ [] = rw e (slice_empty n ks) in ap (flat_map step_line) d
+no_step ks i h = ap (flat_map step_line) (no_byte ks i h)

@@ -2,7 +2,7 @@
 // byte before and after that as it was.
 #![tactic(auto)]
 
-ghost use Rattle.std.specs.Prelude.{◌≡◌, [], ◌∷◌, map, ◌+◌, ◌*◌, ◌≤◌, ◌<◌, ◌^◌, length, take, get_or};
+ghost use Rattle.std.specs.Prelude.{◌≡◌, [], ◌∷◌, map, ◌+◌, ◌*◌, ◌≤◌, ◌<◌, ◌^◌, length, take, get_or, IfSome, IfNone};
 ghost use Rattle.definitions.specs.Lists.{flat_map};
 ghost use Rattle.definitions.specs.Sheet.Text.{bytes, decimal as «decimal_of»};
 ghost use Rattle.definitions.specs.Problem.Atoms.{places_of};
@@ -24,12 +24,8 @@ pub fn text(out: &mut [u8], at: usize, s: &[u8]) -> usize
     requires { at + length s.now ≤ length out.old }
     ensures { Prints s.now out.old at out.new result }
 {
-    let mut i = 0;
-    let mut next = at;
-    while i < s.len() {
-        next = byte(out, next, s[i]);
-        i += 1;
-    }
+    let next = at + s.len();
+    out[at..next].copy_from_slice(s);
     next
 }
 
@@ -54,15 +50,24 @@ pub fn field(out: &mut [u8], at: usize, k: usize) -> usize
     decimal(out, next, k)
 }
 
+// A line of a word and numbers, a field each.
+fn line(out: &mut [u8], at: usize, word: &[u8], numbers: &[usize]) -> usize
+    requires { at + length (print_line (word.now ∷ map «decimal_of» numbers.now)) ≤ length out.old }
+    ensures { Prints (print_line (word.now ∷ map «decimal_of» numbers.now)) out.old at out.new result }
+{
+    let mut next = text(out, at, word);
+    for k in numbers {
+        next = field(out, next, *k);
+    }
+    byte(out, next, 10)
+}
+
 // A refusal's line.
 pub fn no_line(out: &mut [u8], at: usize, number: usize, place: usize) -> usize
     requires { at + length (print_line (bytes "no" ∷ «decimal_of» number ∷ «decimal_of» place ∷ [])) ≤ length out.old }
     ensures { Prints (print_line (bytes "no" ∷ «decimal_of» number ∷ «decimal_of» place ∷ [])) out.old at out.new result }
 {
-    let word = text(out, at, b"no");
-    let first = field(out, word, number);
-    let second = field(out, first, place);
-    byte(out, second, 10)
+    line(out, at, b"no", &[number, place])
 }
 
 // The sizes: elements, atoms, actions, bound.
@@ -77,12 +82,7 @@ pub fn sizes_line(
     requires { at + length (sizes_line (record { elements = elements; atom_count = atoms; action_count = actions; step_bound = bound })) ≤ length out.old }
     ensures { Prints (sizes_line (record { elements = elements; atom_count = atoms; action_count = actions; step_bound = bound })) out.old at out.new result }
 {
-    let word = text(out, at, b"sizes");
-    let first = field(out, word, elements);
-    let second = field(out, first, atoms);
-    let third = field(out, second, actions);
-    let fourth = field(out, third, bound);
-    byte(out, fourth, 10)
+    line(out, at, b"sizes", &[elements, atoms, actions, bound])
 }
 
 // How many tuples of a relation are picked.
@@ -103,16 +103,19 @@ pub struct Span {
     pub to: usize,
 }
 
-// Where the label of element x stands in the site's text; it ends at 0 where there is none.
-pub fn label(labels: &[usize], x: usize) -> Span
+// Where the label of element x stands in the site's text, if it has one: then its end is not 0.
+pub fn label(labels: &[usize], x: usize) -> Option<Span>
     requires { 2 * x + 1 < length labels.now }
-    ensures { (result.from ≡ get_or labels.now (2 * x) 0) × (result.to ≡ get_or labels.now (2 * x + 1) 0) }
+    ensures some { IfSome result (λ l. (l.from ≡ get_or labels.now (2 * x) 0) × (l.to ≡ get_or labels.now (2 * x + 1) 0) × (0 < l.to)) }
+    ensures none { IfNone result (get_or labels.now (2 * x + 1) 0 ≡ 0) }
 {
     let i = 2 * x;
-    Span {
-        from: labels[i],
-        to: labels[i + 1],
+    let from = labels[i];
+    let to = labels[i + 1];
+    if to == 0 {
+        return None;
     }
+    Some(Span { from, to })
 }
 
 // An element, a field: its label, or its number where it has none.
@@ -121,13 +124,10 @@ fn element(out: &mut [u8], at: usize, site: &[u8], labels: &[usize], x: usize) -
     ensures { Prints («element_of» site.now labels.now x) out.old at out.new result }
 {
     let next = byte(out, at, 9);
-    let l = label(labels, x);
-    let from = l.from;
-    let to = l.to;
-    if to == 0 {
-        return decimal(out, next, x);
+    match label(labels, x) {
+        Some(l) => text(out, next, &site[l.from..l.to]),
+        None => decimal(out, next, x),
     }
-    text(out, next, &site[from..to])
 }
 
 // The values of a row's places, a field each, the first place first. `tuples` is how many rows there are.
@@ -145,12 +145,10 @@ pub fn elements(
     ensures { Prints («elements_of» site.now labels.now (places_of n arity row)) out.old at out.new result }
 {
     let mut width = tuples;
-    let mut left = arity;
     let mut next = at;
-    while 0 < left {
+    for _left in (0..arity).rev() {
         width = width / n;
         next = element(out, next, site, labels, row / width % n);
-        left -= 1;
     }
     next
 }
@@ -181,9 +179,7 @@ pub fn step_line(out: &mut [u8], at: usize, k: usize) -> usize
     requires { at + length (step_line k) ≤ length out.old }
     ensures { Prints (step_line k) out.old at out.new result }
 {
-    let word = text(out, at, b"step");
-    let numbered = field(out, word, k);
-    byte(out, numbered, 10)
+    line(out, at, b"step", &[k])
 }
 
 // The first n steps of a table, a line each.
@@ -191,19 +187,11 @@ pub fn step_lines(out: &mut [u8], at: usize, steps: &[u32], n: usize) -> usize
     requires { (n ≤ length steps.now) × (at + length (flat_map step_line (take n steps.now)) ≤ length out.old) }
     ensures { Prints (flat_map step_line (take n steps.now)) out.old at out.new result }
 {
-    let mut i = 0;
     let mut next = at;
-    while i < n {
-        next = step_line(out, next, wide(steps[i]));
-        i += 1;
+    for k in &steps[..n] {
+        next = step_line(out, next, *k as usize);
     }
     next
-}
-
-fn wide(k: u32) -> usize
-    ensures { result ≡ k }
-{
-    k as usize
 }
 
 // The last line: how many steps there are.
@@ -211,7 +199,5 @@ pub fn ok_line(out: &mut [u8], at: usize, k: usize) -> usize
     requires { at + length (print_line (bytes "ok" ∷ «decimal_of» k ∷ [])) ≤ length out.old }
     ensures { Prints (print_line (bytes "ok" ∷ «decimal_of» k ∷ [])) out.old at out.new result }
 {
-    let word = text(out, at, b"ok");
-    let counted = field(out, word, k);
-    byte(out, counted, 10)
+    line(out, at, b"ok", &[k])
 }

@@ -1,5 +1,5 @@
 -- The words of an action by the table: its elements, its part, its kind and its subject. Assumes nothing.
-use Rattle.std.specs.Prelude.{ℕ, zero, suc, ◌+◌, ◌-◌, ◌*◌, ◌/◌, ◌%◌, ◌^◌, ◌≤◌, ◌<◌, ◌≡◌, Bool, ◌||◌, T, length, get_or, take, drop, set}
+use Rattle.std.specs.Prelude.{Option, Some, None, ℕ, zero, suc, ◌+◌, ◌-◌, ◌*◌, ◌/◌, ◌%◌, ◌^◌, ◌≤◌, ◌<◌, ◌≡◌, Bool, ◌||◌, T, length, get_or, take, drop, set}
 use Rattle.std.proofs.Math.Path.{refl, ap, ap₂}
 use Rattle.std.proofs.Common.{sym, subst, ◌∙◌, add-one, pow-suc, arith, length-set, drop-cons, drop-set-lt, get_or-set_same, take-suc-set}
 use mathlib.Core.List.{List, [], ◌∷◌, ◌++◌}
@@ -11,7 +11,7 @@ use Rattle.definitions.specs.Problem.Actions as A
 use Rattle.definitions.specs.Reply.Page.{spaces, left, right, step_head, kind_word, subject_word, free_values, shown_elements, part_word}
 use Rattle.laws.specs.Booleans.{or_l, or_r}
 use Rattle.laws.specs.Numbers.{IsAction}
-use Rattle.problem_table.specs.Lines.{size_in, node_line, node_place, Fits}
+use Rattle.problem_table.specs.Lines.{size_in, node_line, Fits}
 use Rattle.problem_table.specs.Numbers.{ActFits}
 use Rattle.problem_table.specs.declared.NodeLine.{NodeLine}
 use Rattle.problem_table.specs.declared.TupleAct.{TupleAct}
@@ -61,18 +61,32 @@ elements_in w names (MarkIn a) = tuple_in w names a
 elements_in w names (MarkOut a) = tuple_in w names a
 elements_in w names Nothing = []
 
-unfoldable pub part_in : Act → ℕ
-part_in (Set a) = 0
-part_in Begin = 0
-part_in (And a) = 0
-part_in (Or a) = suc a.choice
-part_in (Exists a) = 0
-part_in (Forall a) = 0
-part_in Goal = 0
-part_in RoundEnd = 0
-part_in (MarkIn a) = 0
-part_in (MarkOut a) = 0
-part_in Nothing = 0
+unfoldable pub part_in : Act → Option ℕ
+part_in (Set a) = None
+part_in Begin = None
+part_in (And a) = None
+part_in (Or a) = Some a.choice
+part_in (Exists a) = None
+part_in (Forall a) = None
+part_in Goal = None
+part_in RoundEnd = None
+part_in (MarkIn a) = None
+part_in (MarkOut a) = None
+part_in Nothing = None
+
+pub no_part : (a : Act) → ((t : ChoiceAct) → a ≡ Or t → ⊥) → None ≡ part_in a
+unfolding part_in
+no_part (Set t) h = refl
+no_part Begin h = refl
+no_part (And t) h = refl
+no_part (Or t) h = absurd (h t refl)
+no_part (Exists t) h = refl
+no_part (Forall t) h = refl
+no_part Goal h = refl
+no_part RoundEnd h = refl
+no_part (MarkIn t) h = refl
+no_part (MarkOut t) h = refl
+no_part Nothing h = refl
 
 unfoldable pub kind_in : Act → List ℕ
 kind_in (Set a) = bytes "set"
@@ -224,10 +238,6 @@ in_small w a t f e = (subst (ActFits w) e f).0
 
 pub out_small : (w : List ℕ) (a : Act) (t : TupleAct) → ActFits w a → a ≡ MarkOut t → t.relation < 18
 out_small w a t f e = (subst (ActFits w) e f).0
-
-pub choice_small : (w : List ℕ) (a : Act) (t : ChoiceAct) → Fits w → ActFits w a → a ≡ Or t → t.choice + 1 < 2 ^ 64
-unfolding node_line
-choice_small w a t F f e = let (h, _, k) = subst (ActFits w) e f in omega (arith, k, F.entry (node_place t.node + 5))
 
 pub width_few : (w : List ℕ) (v : ℕ) (x : NodeLine) → Fits w → v < 64 → x ≡ node_line w v → x.width ≤ 4
 width_few w v x F h e = subst (λ (y : NodeLine). y.width ≤ 4) (sym e) (F.node v h).width

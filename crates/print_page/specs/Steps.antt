@@ -1,11 +1,11 @@
 -- The lines of a step, as the code writes and counts them. Assumes nothing.
 use Rattle.std.specs.Prelude.{ℕ, zero, suc, ◌<◌, ◌≡◌, Bool}
 use Rattle.std.proofs.Math.Path.{refl, sym, ap, ap₂}
-use Rattle.std.proofs.Common.{◌∙◌}
+use Rattle.std.proofs.Common.{◌∙◌, arith, get_or-take, length-take}
 use Rattle.std.proofs.Math.Bool.{true, false}
 use Rattle.std.proofs.Math.Option.{Option, none, some}
 use mathlib.Core.List.{List, [], ◌∷◌, ◌++◌, append-nil}
-use Rattle.std.proofs.Math.ListN.{length}
+use Rattle.std.proofs.Math.ListN.{length, take, get_or}
 use Rattle.definitions.specs.Lists.{option, flat_map}
 use Rattle.definitions.specs.Sheet.Sheets.{Label}
 use Rattle.definitions.specs.Problem.Atoms.{Problem}
@@ -36,6 +36,20 @@ is_there RoundEnd = true
 is_there (MarkIn a) = true
 is_there (MarkOut a) = true
 is_there Nothing = false
+
+pub there_unless : (a : Act) → (a ≡ Nothing → ⊥) → true ≡ is_there a
+unfolding is_there
+there_unless (Set t) h = refl
+there_unless Begin h = refl
+there_unless (And t) h = refl
+there_unless (Or t) h = refl
+there_unless (Exists t) h = refl
+there_unless (Forall t) h = refl
+there_unless Goal h = refl
+there_unless RoundEnd h = refl
+there_unless (MarkIn t) h = refl
+there_unless (MarkOut t) h = refl
+there_unless Nothing h = absurd (h refl)
 
 there : (x : A.Action) → is_there (said x) ≡ true
 unfolding is_there said
@@ -98,3 +112,7 @@ module _ (p : Problem) (w question names site labels : List ℕ) (ls : List Labe
       by_option : (o : Option A.Action) → A.action_at p k ≡ o → a ≡ act_of o → length (option o [] (step_lines ls p i k)) ≡ lines_in 0 (all_units (said_by site labels) (part_in a) (elements_in w names a))
       by_option none q e = let z : false ≡ true = sym (ap is_there e) ∙ t in absurd (T_of z)
       by_option (some x) q e = count_of x (action_is p k x q) ∙ ap (λ (b : Act). lines_in 0 (all_units (said_by site labels) (part_in b) (elements_in w names b))) (sym e)
+
+-- the values at the front are elements as all are
+pub front_within : (n k : ℕ) (values : List ℕ) → Within n values → (i : ℕ) → i < length (take k values) → get_or (take k values) i 0 < n
+front_within n k values h i l = rw (get_or-take k values i 0 (omega (arith, length-take k values))) (h i)

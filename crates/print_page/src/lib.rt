@@ -45,9 +45,7 @@ fn places(n: usize, count: usize, row: usize, values: &mut [usize])
     ensures { (take count values.new ≡ places_of n count row) × Within n values.new }
 {
     let mut rest = row;
-    let mut i = count;
-    while 0 < i {
-        i -= 1;
+    for i in (0..count).rev() {
         values[i] = rest % n;
         rest = rest / n;
     }
@@ -112,23 +110,13 @@ fn elements(table: &[usize], names: &[usize], a: Act, values: &mut [usize]) -> u
     }
 }
 
-// Its part, one more than its number; 0 where it has none.
-fn part_of(table: &[usize], a: Act) -> usize
-    requires { Fits table.now × ActFits table.now a }
+// Its part by its number, where it has one.
+fn part_of(a: Act) -> Option<usize>
     ensures { result ≡ part_in a }
 {
     match a {
-        Act::Set(_) => 0,
-        Act::Begin => 0,
-        Act::And(_) => 0,
-        Act::Or(t) => t.choice + 1,
-        Act::Exists(_) => 0,
-        Act::Forall(_) => 0,
-        Act::Goal => 0,
-        Act::RoundEnd => 0,
-        Act::MarkIn(_) => 0,
-        Act::MarkOut(_) => 0,
-        Act::Nothing => 0,
+        Act::Or(t) => Some(t.choice),
+        _ => None,
     }
 }
 
@@ -208,19 +196,7 @@ fn head(
 fn is_there(a: Act) -> bool
     ensures { result ≡ is_there a }
 {
-    match a {
-        Act::Set(_) => true,
-        Act::Begin => true,
-        Act::And(_) => true,
-        Act::Or(_) => true,
-        Act::Exists(_) => true,
-        Act::Forall(_) => true,
-        Act::Goal => true,
-        Act::RoundEnd => true,
-        Act::MarkIn(_) => true,
-        Act::MarkOut(_) => true,
-        Act::Nothing => false,
-    }
+    !matches!(a, Act::Nothing)
 }
 
 // The lines of step i, which is action k, each with its end.
@@ -243,9 +219,9 @@ pub fn step(
     if is_there(a) {
         let mut values = [0usize; 5];
         let count = elements(table, names, a, &mut values);
-        let part = part_of(table, a);
+        let part = part_of(a);
         let headed = head(out, at, question, names, i, k, a);
-        return print_units::units(out, headed, site, labels, &values, count, part);
+        return print_units::units(out, headed, site, labels, &values[..count], part);
     }
     at
 }
@@ -266,8 +242,8 @@ pub fn step_lines(
     if is_there(a) {
         let mut values = [0usize; 5];
         let count = elements(table, names, a, &mut values);
-        let part = part_of(table, a);
-        return print_units::lines(site, labels, &values, count, part);
+        let part = part_of(a);
+        return print_units::lines(site, labels, &values[..count], part);
     }
     0
 }
@@ -294,30 +270,28 @@ pub fn find(
         × ((p : Problem) (ls : List Label) (question : List ℕ) → Is p table.now → NamesAre p question names.now → said_by site.now labels.now ≡ «label_of» ls
         → Finds ls p steps.now first result.index result.line) }
 {
-    let mut i: usize = 0;
     let mut line: usize = 0;
-    while i < steps.len() {
-        let k = steps[i] as usize;
-        let many = step_lines(site, labels, names, table, k);
+    for (index, k) in steps.iter().enumerate() {
+        let many = step_lines(site, labels, names, table, *k as usize);
         if first < line + many {
-            return Place { index: i, line };
+            return Place { index, line };
         }
         line += many;
-        i += 1;
     }
-    Place { index: i, line }
+    Place {
+        index: steps.len(),
+        line,
+    }
 }
 
 // So many blank lines, each with its end.
 fn blanks(out: &mut [u8], at: usize, count: usize) -> usize
     ensures { Emits (flat_map ended_line (replicate count blank_line)) out.old at out.new result }
 {
-    let mut left = count;
     let mut next = at;
-    while 0 < left {
+    for _left in (0..count).rev() {
         let filled = print_bytes::spaces(out, next, 72);
         next = print_bytes::byte(out, filled, 10);
-        left -= 1;
     }
     next
 }
@@ -338,15 +312,13 @@ fn following(
     ensures { (p : Problem) (ls : List Label) → Is p table.now → NamesAre p question.now names.now → said_by site.now labels.now ≡ «label_of» ls
         → Covers (flat_map ended_line (rest_from ls p steps.now from)) out.old at out.new result }
 {
-    let mut i = from;
     let mut next = at;
-    while i < steps.len() {
+    for i in from..steps.len() {
         if out.len() <= next {
             return next;
         }
         let k = steps[i] as usize;
         next = step(out, next, question, site, labels, names, table, i, k);
-        i += 1;
     }
     next
 }
@@ -467,11 +439,9 @@ pub fn names_of(g: Signature, names: &mut [usize])
     let from = g.from;
     let to = g.to;
     let arity = g.arity;
-    let mut i: usize = 0;
-    while i < total {
+    for i in 0..total {
         names[15 + 3 * i] = from[i];
         names[15 + 3 * i + 1] = to[i];
         names[15 + 3 * i + 2] = arity[i];
-        i += 1;
     }
 }

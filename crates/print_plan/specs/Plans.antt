@@ -1,15 +1,17 @@
 -- The lines of steps: what is written where each is an action's, the first that is none, and how long the lines are. Assumes nothing.
-use Prim.Native.Nat.{ℕ, zero, suc, ◌+◌, ◌*◌, ◌/◌, ◌%◌, ◌≤◌, ◌<◌}
-use Rattle.std.specs.Prelude.{◌≡◌, Bool, true, false, leb, ltb, get_or, take, drop, if◌then◌else◌}
+use Prim.Native.Nat.{ℕ, zero, suc, ◌+◌, ◌*◌, ◌≤◌, ◌<◌}
+use Rattle.std.specs.Prelude.{◌≡◌, Bool, true, false, ltb, get_or, drop}
 use Rattle.std.proofs.Math.Path.{refl, ap}
-use Rattle.std.proofs.Common.{sym, ap₂, subst, ◌∙◌, add-one, drop_of_length-le, drop-cons, length-take-le, get_or-take, ltb-true, ltb-false}
+use Rattle.std.proofs.Common.{sym, subst, ◌∙◌, add-one, drop_of_length-le, drop-cons, ltb-true, ltb-false}
 use Rattle.std.proofs.Math.Option.{Option, none, some}
 use mathlib.Core.List.{List, [], ◌∷◌, ◌++◌, map}
 use native.Mathlib.Omega.{arith}
 use Rattle.std.proofs.Math.ListN.{length, length-append}
+use Rattle.print_line.specs.Lines.{next_byte, no_byte}
+use Rattle.print_bytes.specs.Emitted.{few_digits}
 use Rattle.definitions.specs.Lists.{flat_map, option}
 use Rattle.definitions.specs.Refusal.{refused, accepted, ◌>>=◌, given}
-use Rattle.definitions.specs.Sheet.Text.{bytes, decimal, decimal_in}
+use Rattle.definitions.specs.Sheet.Text.{bytes, decimal}
 use Rattle.definitions.specs.Sheet.Formula.{write_each}
 use Rattle.definitions.specs.Problem.Truth.{Case}
 use Rattle.definitions.specs.Problem.Tree.{free}
@@ -36,13 +38,11 @@ pub lines_end : (c : Case) (p : Problem) (steps : List ℕ) (i : ℕ) → length
 unfolding flat_map
 lines_end c p steps i h = rw (drop_of_length-le steps h)
 
-pub values_next : (values : List ℕ) (count i x : ℕ) → i < count → count ≤ length values → x ≡ get_or values i 0 → objects_text (drop i (take count values)) ≡ (32 ∷ []) ++ (object_word x ++ objects_text (drop (i + 1) (take count values)))
-values_next values count i x h l e =
-    let d : drop i (take count values) ≡ x ∷ drop (i + 1) (take count values) = drop-cons (take count values) i 0 (omega (arith, length-take-le count values l)) ∙ ap₂ (λ (y : ℕ) (ys : List ℕ). y ∷ ys) (get_or-take count values i 0 h ∙ sym e) (ap (λ (j : ℕ). drop j (take count values)) (sym (add-one i))) in
-    ap objects_text d ∙ objects_next x (drop (i + 1) (take count values))
+pub values_next : (values : List ℕ) (i : ℕ) → i < length values → objects_text (drop i values) ≡ (32 ∷ []) ++ (object_word (get_or values i 0) ++ objects_text (drop (i + 1) values))
+values_next values i h = ap objects_text (next_byte values i h) ∙ objects_next (get_or values i 0) (drop (i + 1) values)
 
-pub values_end : (values : List ℕ) (count i : ℕ) → count ≤ i → count ≤ length values → objects_text (drop i (take count values)) ≡ []
-values_end values count i h l = ap objects_text (drop_of_length-le (take count values) {i = i} (omega (arith, length-take-le count values l))) ∙ objects_none
+pub values_end : (values : List ℕ) (i : ℕ) → length values ≤ i → objects_text (drop i values) ≡ []
+values_end values i h = ap objects_text (no_byte values i h) ∙ objects_none
 
 -- ---- steps that are all actions' have a plan, which is written by their lines
 module _ (c : Case) (p : Problem) where
@@ -91,35 +91,22 @@ module _ (c : Case) (p : Problem) (steps : List ℕ) (r : ℕ) (C : Counted step
   one_missing h = let z : 0 + r ≡ r = omega arith in first_none c p steps 0 r (λ m l. action_some p (get_or steps m 0) (C.small m l)) h (at_none p (get_or steps r 0) (C.large h)) ∙ ap (refused 13) z
 
 -- ---- how long the lines are
-decimal_in_lem : (k n : ℕ) → length (decimal_in k n) ≤ k
-unfolding decimal_in
-decimal_in_lem zero n = omega arith
-decimal_in_lem (suc k) n = by_test (leb n 9) (decimal_in_lem k (n / 10))
-  where
-    by_test : (b : Bool) → length (decimal_in k (n / 10)) ≤ k → length (if b then (n + 48) ∷ [] else decimal_in k (n / 10) ++ ((n % 10 + 48) ∷ [])) ≤ suc k
-    by_test true h = omega arith
-    by_test false h = omega (arith, length-append (decimal_in k (n / 10)) ((n % 10 + 48) ∷ []))
-
-digits : (n : ℕ) → length (decimal n) ≤ 20
-unfolding decimal
-digits n = decimal_in_lem 20 n
-
 module _ (c : Case) (short : (r : ℕ) → length (relation_in c r).name ≤ 12) (few : (r : ℕ) → (relation_in c r).arity ≤ 3) where
   word_few : (a : ActionName) → length (action_word c a) ≤ 60
   unfolding action_word
   word_few (set_name r) = omega (arith, short r, length-append (relation_in c r).name (bytes "_true"))
   word_few begin_name = omega arith
   word_few goal_name = omega arith
-  word_few (and_name v) = omega (arith, digits v)
-  word_few (exists_name v) = omega (arith, digits v)
-  word_few (first_name v) = omega (arith, digits v, length-append (decimal v) (bytes "_1"))
-  word_few (next_name v) = omega (arith, digits v, length-append (decimal v) (bytes "_2"))
-  word_few (or_name v i) = omega (arith, digits v, digits i, length-append (decimal v) (bytes "_" ++ decimal i))
+  word_few (and_name v) = omega (arith, few_digits v)
+  word_few (exists_name v) = omega (arith, few_digits v)
+  word_few (first_name v) = omega (arith, few_digits v, length-append (decimal v) (bytes "_1"))
+  word_few (next_name v) = omega (arith, few_digits v, length-append (decimal v) (bytes "_2"))
+  word_few (or_name v i) = omega (arith, few_digits v, few_digits i, length-append (decimal v) (bytes "_" ++ decimal i))
 
   objects_few : (xs : List ℕ) → length (write_each (λ v. v) (map object_word xs)) ≤ 22 * length xs
   unfolding write_each object_word
   objects_few [] = omega arith
-  objects_few (x ∷ xs) = omega (arith, objects_few xs, digits x, length-append (decimal x) (write_each (λ v. v) (map object_word xs)))
+  objects_few (x ∷ xs) = omega (arith, objects_few xs, few_digits x, length-append (decimal x) (write_each (λ v. v) (map object_word xs)))
 
   abbrev p : Problem
   p = problem_of c

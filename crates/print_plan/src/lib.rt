@@ -78,17 +78,14 @@ fn objects_of(table: &[usize], names: &[usize], a: Act, values: &mut [usize]) ->
     }
 }
 
-// The first `count` values as objects, a space before each.
-fn objects(out: &mut [u8], at: usize, values: &[usize], count: usize) -> usize
-    requires { count ≤ length values.now }
-    ensures { Emits (objects_text (take count values.now)) out.old at out.new result }
+// Values as objects, a space before each.
+fn objects(out: &mut [u8], at: usize, values: &[usize]) -> usize
+    ensures { Emits (objects_text values.now) out.old at out.new result }
 {
-    let mut i: usize = 0;
     let mut next = at;
-    while i < count {
+    for x in values {
         let parted = print_bytes::byte(out, next, 32);
-        next = print_names::object_word(out, parted, values[i]);
-        i += 1;
+        next = print_names::object_word(out, parted, *x);
     }
     next
 }
@@ -112,7 +109,7 @@ fn step(
     let opened = print_bytes::byte(out, at, 40);
     let name = name_of(a);
     let named = print_names::action_word(out, opened, question, names, name);
-    let listed = objects(out, named, &values, count);
+    let listed = objects(out, named, &values[..count]);
     let closed = print_bytes::byte(out, listed, 41);
     print_bytes::byte(out, closed, 10)
 }
@@ -129,12 +126,9 @@ pub fn plan(
     ensures { (c : Case) → Is (problem_of c) table.now → NamesAre (problem_of c) question.now names.now → Taken (problem_of c) steps.now
         → Emits (flat_map (line_at c (problem_of c)) steps.now) out.old 0 out.new result }
 {
-    let mut i: usize = 0;
     let mut next: usize = 0;
-    while i < steps.len() {
-        let k = steps[i] as usize;
-        next = step(out, next, question, names, table, k);
-        i += 1;
+    for k in steps {
+        next = step(out, next, question, names, table, *k as usize);
     }
     next
 }
@@ -143,12 +137,10 @@ pub fn plan(
 pub fn missing(steps: &[u32], actions: usize) -> usize
     ensures { Counted steps.now actions result }
 {
-    let mut i: usize = 0;
-    while i < steps.len() {
-        if actions <= steps[i] as usize {
+    for (i, k) in steps.iter().enumerate() {
+        if actions <= *k as usize {
             return i;
         }
-        i += 1;
     }
-    i
+    steps.len()
 }

@@ -48,6 +48,7 @@ pub fn question_end(s: &[u8]) -> usize
 {
     let n = s.len();
     let mut at = 0;
+    // No `for`: the next line begins where this one ends.
     while at < n {
         let l = line(s, at);
         if is_record(s, at, l.end, b"rule") {
@@ -64,6 +65,7 @@ pub fn site_end(s: &[u8]) -> usize
 {
     let n = s.len();
     let mut at = 0;
+    // No `for`: the next line begins where this one ends.
     while at < n {
         let l = line(s, at);
         if is_record(s, at, l.end, b"pick") {
@@ -142,11 +144,9 @@ fn counts(out: &mut [u8], at: usize, q: &[u8], g: Signature, n: usize, words: &[
     ensures { Prints («Counts_of» q.now g n words.now) out.old at out.new result }
 {
     let m = g.chosen;
-    let mut j = 0;
     let mut next = at;
-    while j < m {
+    for j in 0..m {
         next = count(out, next, q, g, n, words, j);
-        j += 1;
     }
     next
 }
@@ -190,13 +190,11 @@ fn row_lines(
     requires { Spans site.now labels.now n × (0 < n) × (rows ≡ n ^ arity) × (first + rows ≤ 64 * length words.now) × (first + rows < 2 ^ 64) × (at + length (row_lines (said_by site.now labels.now) words.now first name.now n arity) ≤ length out.old) }
     ensures { Prints (row_lines (said_by site.now labels.now) words.now first name.now n arity) out.old at out.new result }
 {
-    let mut row = 0;
     let mut next = at;
-    while row < rows {
+    for row in 0..rows {
         next = row_line(
             out, next, words, first, name, site, labels, n, arity, rows, row,
         );
-        row += 1;
     }
     next
 }
@@ -252,11 +250,9 @@ fn picks(
     ensures { Prints («picks_of» (said_by site.now labels.now) q.now g n words.now) out.old at out.new result }
 {
     let m = g.chosen;
-    let mut j = 0;
     let mut next = at;
-    while j < m {
+    for j in 0..m {
         next = picked(out, next, q, site, labels, g, n, words, j);
-        j += 1;
     }
     next
 }

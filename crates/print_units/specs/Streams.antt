@@ -1,7 +1,7 @@
 -- The bytes of a step's lines, as the code writes them: unit after unit, and where one does not fit the rest of the line, its end, and the blank
 -- columns of the next. Assumes nothing.
-use Rattle.std.specs.Prelude.{ℕ, ◌+◌, ◌-◌, ◌≤◌, ◌<◌, ◌≡◌, refl, Bool, false, List, [], ◌∷◌, ◌++◌, map, get_or, take, drop, if◌then◌else◌}
-use Rattle.std.proofs.Common.{sym, ◌∙◌, append_assoc, append-nil, length-append, length-drop, get_or-take, length-take-le}
+use Rattle.std.specs.Prelude.{Option, ℕ, ◌+◌, ◌-◌, ◌≤◌, ◌<◌, ◌≡◌, refl, Bool, false, List, [], ◌∷◌, ◌++◌, map, get_or, drop, if◌then◌else◌}
+use Rattle.std.proofs.Common.{sym, ◌∙◌, append_assoc, append-nil, length-append, length-drop}
 use Rattle.std.proofs.Math.Path.{ap}
 use Rattle.std.proofs.Math.Bool.{true}
 use native.Mathlib.Omega.{arith}
@@ -79,19 +79,16 @@ filled_is used j e = rw e
 unfoldable pub new_line : (used len : ℕ) → ℕ
 new_line used len = if leb (used + len) 30 then 0 else 1
 
-module _ (say : ℕ → List ℕ) (part : ℕ) (values : List ℕ) (count : ℕ) (room : count ≤ length values) where
-  abbrev pub xs : List ℕ
-  xs = take count values
+module _ (say : ℕ → List ℕ) (part : Option ℕ) (xs : List ℕ) where
+  pub left_over : (j : ℕ) → length (drop (j + 1) xs) ≡ length xs - (j + 1)
+  left_over j = length-drop (j + 1) xs
 
-  pub xs_length : length xs ≡ count
-  xs_length = length-take-le count values room
+  module _ (used len j : ℕ) (h : j < length xs) (is-length : (ys : List ℕ) → length ys ≡ length xs - (j + 1) → len ≡ length (say (get_or xs j 0) ++ after part ys)) where
+    abbrev x : ℕ
+    x = get_or xs j 0
 
-  pub left_over : (j : ℕ) → length (drop (j + 1) xs) ≡ count - (j + 1)
-  left_over j = length-drop (j + 1) xs ∙ ap (λ (k : ℕ). k - (j + 1)) xs_length
-
-  module _ (used len j x : ℕ) (h : j < count) (is_value : x ≡ get_or values j 0) (is-length : (ys : List ℕ) → length ys ≡ count - (j + 1) → len ≡ length (say x ++ after part ys)) where
     unit_at : units_from say part (drop j xs) ≡ (say x ++ after part (drop (j + 1) xs)) ∷ units_from say part (drop (j + 1) xs)
-    unit_at = next_unit say part xs j (omega (arith, xs_length)) ∙ ap (λ (y : ℕ). (say y ++ after part (drop (j + 1) xs)) ∷ units_from say part (drop (j + 1) xs)) (get_or-take count values j 0 h ∙ sym is_value)
+    unit_at = next_unit say part xs j h
 
     pub stream_next : streamed used (units_from say part (drop j xs)) ≡ (further used len ++ (say x ++ after part (drop (j + 1) xs))) ++ streamed (used_after used len) (units_from say part (drop (j + 1) xs))
     unfolding streamed
@@ -103,30 +100,30 @@ module _ (say : ℕ → List ℕ) (part : ℕ) (values : List ℕ) (count : ℕ)
     unfolding lines_in new_line
     lines_next = ap (lines_in used) unit_at ∙ rw (sym (is-length (drop (j + 1) xs) (left_over j)))
 
-  pub stream_end : (used j : ℕ) → count ≤ j → streamed used (units_from say part (drop j xs)) ≡ filled used
+  pub stream_end : (used j : ℕ) → length xs ≤ j → streamed used (units_from say part (drop j xs)) ≡ filled used
   unfolding streamed
-  stream_end used j h = ap (streamed used) (last_unit say part xs j (omega (arith, xs_length)))
+  stream_end used j h = ap (streamed used) (last_unit say part xs j h)
 
-  pub lines_end : (used j : ℕ) → count ≤ j → lines_in used (units_from say part (drop j xs)) ≡ 1
+  pub lines_end : (used j : ℕ) → length xs ≤ j → lines_in used (units_from say part (drop j xs)) ≡ 1
   unfolding lines_in
-  lines_end used j h = ap (lines_in used) (last_unit say part xs j (omega (arith, xs_length)))
+  lines_end used j h = ap (lines_in used) (last_unit say part xs j h)
 
   -- all units are those from the first on; where there is no element, the part
-  pub all_from : 0 < count → all_units say part xs ≡ units_from say part (drop 0 xs)
-  all_from h = some_units say part xs (omega (arith, xs_length))
+  pub all_from : 0 < length xs → all_units say part xs ≡ units_from say part (drop 0 xs)
+  all_from h = some_units say part xs h
 
-  pub stream_part : count ≡ 0 → length (part_text part) ≤ 30 → streamed 0 (all_units say part xs) ≡ part_text part ++ filled (length (part_text part))
+  pub stream_part : length xs ≡ 0 → length (part_text part) ≤ 30 → streamed 0 (all_units say part xs) ≡ part_text part ++ filled (length (part_text part))
   unfolding streamed
   stream_part e h =
       let (a, b) = fits_further 0 (length (part_text part)) (omega arith) in
       let z : 0 + length (part_text part) ≡ length (part_text part) = omega arith in
-      ap (streamed 0) (no_units say part xs (omega (arith, xs_length))) ∙ rw (a, b, z)
+      ap (streamed 0) (no_units say part xs e) ∙ rw (a, b, z)
 
-  pub lines_part : count ≡ 0 → length (part_text part) ≤ 30 → lines_in 0 (all_units say part xs) ≡ 1
+  pub lines_part : length xs ≡ 0 → length (part_text part) ≤ 30 → lines_in 0 (all_units say part xs) ≡ 1
   unfolding lines_in
   lines_part e h =
       let z : leb (0 + length (part_text part)) 30 ≡ true = le-leb (0 + length (part_text part)) 30 (omega arith) in
-      ap (lines_in 0) (no_units say part xs (omega (arith, xs_length))) ∙ rw z
+      ap (lines_in 0) (no_units say part xs e) ∙ rw z
 
 pub new_none : (used len : ℕ) → used + len ≤ 30 → new_line used len ≡ 0
 unfolding new_line

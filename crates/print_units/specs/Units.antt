@@ -1,6 +1,6 @@
 -- The units of a step's elements, as the code goes through them: by the words of labels, and one element after another. Assumes nothing.
-use Prim.Native.Nat.{ℕ, zero, suc, ◌+◌, ◌-◌, ◌*◌, ◌^◌, ◌≤◌, ◌<◌}
-use Rattle.std.specs.Prelude.{◌≡◌, length}
+use Prim.Native.Nat.{ℕ, zero, suc, ◌+◌, ◌-◌, ◌*◌, ◌≤◌, ◌<◌}
+use Rattle.std.specs.Prelude.{◌≡◌, length, Option, Some, None}
 use Rattle.std.proofs.Math.Path.{refl, sym, ap}
 use Rattle.std.proofs.Common.{◌∙◌, add-one, arith, length-drop, drop_of_length-le, length-take-le}
 use mathlib.Core.List.{List, [], ◌∷◌, ◌++◌}
@@ -18,18 +18,18 @@ pub record Short (site labels : List ℕ) (n : ℕ) : Type 0 where
   pub spans : Spans site labels n
   pub short : (x : ℕ) → get_or labels (2 * x + 1) 0 ≤ get_or labels (2 * x) 0 + 12
 
--- a part as a number: 0 where there is none, else one more than it
-unfoldable pub part_text : ℕ → List ℕ
-part_text zero = []
-part_text (suc i) = 47 ∷ decimal i
+-- a part by its number, where there is one
+unfoldable pub part_text : Option ℕ → List ℕ
+part_text None = []
+part_text (Some i) = 47 ∷ decimal i
 
 -- what stands right after an element that others follow, or none
-unfoldable pub after : ℕ → List ℕ → List ℕ
+unfoldable pub after : Option ℕ → List ℕ → List ℕ
 after part [] = part_text part
 after part (y ∷ ys) = 44 ∷ []
 
 -- the units of elements that are left, and of all of them, said by any words
-module _ (say : ℕ → List ℕ) (part : ℕ) where
+module _ (say : ℕ → List ℕ) (part : Option ℕ) where
   unfoldable pub units_from : List ℕ → List (List ℕ)
   units_from [] = []
   units_from (x ∷ xs) = (say x ++ after part xs) ∷ units_from xs
@@ -48,7 +48,7 @@ module _ (say : ℕ → List ℕ) (part : ℕ) where
   no_units [] e = refl
   no_units (x ∷ xs) e = absurd (omega arith)
 
-pub units_are : (labels : List Label) (part : ℕ) (xs : List ℕ) → units labels (part_text part) xs ≡ all_units (said labels) part xs
+pub units_are : (labels : List Label) (part : Option ℕ) (xs : List ℕ) → units labels (part_text part) xs ≡ all_units (said labels) part xs
 unfolding units all_units units_from after
 units_are labels part [] = refl
 units_are labels part (x ∷ []) = refl
@@ -84,28 +84,26 @@ pub fewer : {site labels : List ℕ} {m n : ℕ} → Short site labels n → m �
 fewer S h = record { spans = fewer-spans S.spans h; short = S.short }
 
 -- ---- a part, and what stands after an element
-pub part_none : (part : ℕ) → part ≡ 0 → part_text part ≡ []
+pub part_none : (part : Option ℕ) → part ≡ None → part_text part ≡ []
 unfolding part_text
-part_none zero e = refl
-part_none (suc i) e = absurd (omega arith)
+part_none part e = rw e
 
-pub part_some : (part : ℕ) → 0 < part → part_text part ≡ (47 ∷ []) ++ decimal (part - 1)
+pub part_some : (part : Option ℕ) (i : ℕ) → part ≡ Some i → part_text part ≡ (47 ∷ []) ++ decimal i
 unfolding part_text
-part_some zero h = absurd (omega arith)
-part_some (suc i) h = let e : suc i - 1 ≡ i = omega arith in rw e
+part_some part i e = rw e
 
-pub after_more : (part : ℕ) (xs : List ℕ) → 0 < length xs → after part xs ≡ 44 ∷ []
+pub after_more : (part : Option ℕ) (xs : List ℕ) → 0 < length xs → after part xs ≡ 44 ∷ []
 unfolding after
 after_more part [] h = absurd (omega arith)
 after_more part (x ∷ xs) h = refl
 
-pub after_last : (part : ℕ) (xs : List ℕ) → length xs ≡ 0 → after part xs ≡ part_text part
+pub after_last : (part : Option ℕ) (xs : List ℕ) → length xs ≡ 0 → after part xs ≡ part_text part
 unfolding after
 after_last part [] e = refl
 after_last part (x ∷ xs) e = absurd (omega arith)
 
 -- ---- the units that are left, from index j on
-module _ (say : ℕ → List ℕ) (part : ℕ) where
+module _ (say : ℕ → List ℕ) (part : Option ℕ) where
   pub next_unit : (xs : List ℕ) (j : ℕ) → j < length xs → units_from say part (drop j xs) ≡ (say (get_or xs j 0) ++ after part (drop (j + 1) xs)) ∷ units_from say part (drop (j + 1) xs)
   unfolding units_from
   next_unit xs j h = let e : drop j xs ≡ get_or xs j 0 ∷ drop (j + 1) xs = rw (add-one, drop-cons xs j 0) in ap (units_from say part) e
@@ -114,7 +112,7 @@ module _ (say : ℕ → List ℕ) (part : ℕ) where
   unfolding units_from
   last_unit xs j h = ap (units_from say part) (drop_of_length-le xs h)
 
-pub part_short : (part : ℕ) → part < 2 ^ 64 → length (part_text part) ≤ 21
+pub part_short : (part : Option ℕ) → length (part_text part) ≤ 21
 unfolding part_text
-part_short zero h = omega arith
-part_short (suc i) h = omega (arith, few_digits i (omega arith))
+part_short None = omega arith
+part_short (Some i) = omega (arith, few_digits i)

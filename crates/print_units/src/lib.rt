@@ -12,13 +12,10 @@ fn said(out: &mut [u8], at: usize, site: &[u8], labels: &[usize], x: usize) -> u
     requires { Short site.now labels.now (x + 1) }
     ensures { Emits (said_by site.now labels.now x) out.old at out.new result }
 {
-    let l = print_line::label(labels, x);
-    let from = l.from;
-    let to = l.to;
-    if to == 0 {
-        return print_bytes::decimal(out, at, x);
+    match print_line::label(labels, x) {
+        Some(l) => print_bytes::text(out, at, &site[l.from..l.to]),
+        None => print_bytes::decimal(out, at, x),
     }
-    print_bytes::text(out, at, &site[from..to])
 }
 
 // How long that is.
@@ -26,37 +23,34 @@ fn said_length(site: &[u8], labels: &[usize], x: usize) -> usize
     requires { Short site.now labels.now (x + 1) }
     ensures { (result ≡ length (said_by site.now labels.now x)) × (result ≤ 20) }
 {
-    let l = print_line::label(labels, x);
-    let from = l.from;
-    let to = l.to;
-    if to == 0 {
-        return print_bytes::digits(x);
+    match print_line::label(labels, x) {
+        Some(l) => l.to - l.from,
+        None => print_bytes::digits(x),
     }
-    to - from
 }
 
-// A part, which comes as one more than its number, or as 0 where there is none; and how long that is.
-fn part_text(out: &mut [u8], at: usize, part: usize) -> usize
+// A part by its number, where there is one; and how long that is.
+fn part_text(out: &mut [u8], at: usize, part: Option<usize>) -> usize
     ensures { Emits (part_text part) out.old at out.new result }
 {
-    if part == 0 {
+    let Some(number) = part else {
         return at;
-    }
+    };
     let slash = print_bytes::byte(out, at, 47);
-    print_bytes::decimal(out, slash, part - 1)
+    print_bytes::decimal(out, slash, number)
 }
 
-fn part_length(part: usize) -> usize
+fn part_length(part: Option<usize>) -> usize
     ensures { (result ≡ length (part_text part)) × (result ≤ 21) }
 {
-    if part == 0 {
+    let Some(number) = part else {
         return 0;
-    }
-    print_bytes::digits(part - 1) + 1
+    };
+    print_bytes::digits(number) + 1
 }
 
 // What stands right after an element that `more` others follow: a comma, or the part; and how long that is.
-fn after_text(out: &mut [u8], at: usize, more: usize, part: usize) -> usize
+fn after_text(out: &mut [u8], at: usize, more: usize, part: Option<usize>) -> usize
     ensures { (xs : List ℕ) → length xs ≡ more → Emits (after part xs) out.old at out.new result }
 {
     if 0 < more {
@@ -65,7 +59,7 @@ fn after_text(out: &mut [u8], at: usize, more: usize, part: usize) -> usize
     part_text(out, at, part)
 }
 
-fn after_length(more: usize, part: usize) -> usize
+fn after_length(more: usize, part: Option<usize>) -> usize
     ensures { ((xs : List ℕ) → length xs ≡ more → result ≡ length (after part xs)) × (result ≤ 21) }
 {
     if 0 < more {
@@ -75,7 +69,7 @@ fn after_length(more: usize, part: usize) -> usize
 }
 
 // How long a unit is.
-fn unit_length(site: &[u8], labels: &[usize], x: usize, more: usize, part: usize) -> usize
+fn unit_length(site: &[u8], labels: &[usize], x: usize, more: usize, part: Option<usize>) -> usize
     requires { Short site.now labels.now (x + 1) }
     ensures { ((xs : List ℕ) → length xs ≡ more → result ≡ length (said_by site.now labels.now x ++ after part xs)) × (result ≤ 41) }
 {
@@ -86,7 +80,7 @@ fn unit_length(site: &[u8], labels: &[usize], x: usize, more: usize, part: usize
 fn fill(out: &mut [u8], at: usize, used: usize) -> usize
     ensures { Emits (filled used) out.old at out.new result }
 {
-    let next = print_bytes::spaces(out, at, print_bytes::over(30, used));
+    let next = print_bytes::spaces(out, at, 30usize.saturating_sub(used));
     print_bytes::byte(out, next, 10)
 }
 
@@ -98,7 +92,7 @@ fn further(out: &mut [u8], at: usize, used: usize, len: usize) -> usize
     if used + len <= 30 {
         return at;
     }
-    let next = print_bytes::spaces(out, at, print_bytes::over(30, used));
+    let next = print_bytes::spaces(out, at, 30usize.saturating_sub(used));
     let ended = print_bytes::byte(out, next, 10);
     print_bytes::spaces(out, ended, 42)
 }
@@ -135,7 +129,7 @@ fn unit(
     len: usize,
     x: usize,
     more: usize,
-    part: usize,
+    part: Option<usize>,
 ) -> usize
     requires { Short site.now labels.now (x + 1) × (used ≤ 64) × (len ≤ 64) }
     ensures { (xs : List ℕ) → length xs ≡ more → Emits («further_of» used len ++ (said_by site.now labels.now x ++ after part xs)) out.old at out.new result }
@@ -152,50 +146,41 @@ pub fn units(
     site: &[u8],
     labels: &[usize],
     values: &[usize],
-    count: usize,
-    part: usize,
+    part: Option<usize>,
 ) -> usize
-    requires by_index { (n : ℕ) × Short site.now labels.now n × ((i : ℕ) → get_or values.now i 0 < n) }
-    requires count_in_bounds { count ≤ length values.now }
-    ensures { Emits (streamed 0 (all_units (said_by site.now labels.now) part (take count values.now))) out.old at out.new result }
+    requires { (n : ℕ) × Short site.now labels.now n × ((i : ℕ) → i < length values.now → get_or values.now i 0 < n) }
+    ensures { Emits (streamed 0 (all_units (said_by site.now labels.now) part values.now)) out.old at out.new result }
 {
-    if count == 0 {
+    if values.is_empty() {
         let parted = part_text(out, at, part);
         return fill(out, parted, part_length(part));
     }
-    let mut j: usize = 0;
     let mut used: usize = 0;
     let mut next = at;
-    while j < count {
-        let x = values[j];
-        let more = count - (j + 1);
-        let len = unit_length(site, labels, x, more, part);
-        next = unit(out, next, site, labels, used, len, x, more, part);
+    for (j, x) in values.iter().enumerate() {
+        let more = values.len() - (j + 1);
+        let len = unit_length(site, labels, *x, more, part);
+        next = unit(out, next, site, labels, used, len, *x, more, part);
         used = used_after(used, len);
-        j += 1;
     }
     fill(out, next, used)
 }
 
 // How many lines these take.
-pub fn lines(site: &[u8], labels: &[usize], values: &[usize], count: usize, part: usize) -> usize
-    requires by_index { (n : ℕ) × Short site.now labels.now n × ((i : ℕ) → get_or values.now i 0 < n) }
-    requires count_in_bounds { count ≤ length values.now }
-    ensures { (result ≡ lines_in 0 (all_units (said_by site.now labels.now) part (take count values.now))) × (result ≤ count + 1) }
+pub fn lines(site: &[u8], labels: &[usize], values: &[usize], part: Option<usize>) -> usize
+    requires { (n : ℕ) × Short site.now labels.now n × ((i : ℕ) → i < length values.now → get_or values.now i 0 < n) }
+    ensures { (result ≡ lines_in 0 (all_units (said_by site.now labels.now) part values.now)) × (result ≤ length values.now + 1) }
 {
-    if count == 0 {
+    if values.is_empty() {
         return 1;
     }
-    let mut j: usize = 0;
     let mut used: usize = 0;
     let mut begun: usize = 0;
-    while j < count {
-        let x = values[j];
-        let more = count - (j + 1);
-        let len = unit_length(site, labels, x, more, part);
+    for (j, x) in values.iter().enumerate() {
+        let more = values.len() - (j + 1);
+        let len = unit_length(site, labels, *x, more, part);
         begun += new_line(used, len);
         used = used_after(used, len);
-        j += 1;
     }
     begun + 1
 }

@@ -2,7 +2,7 @@
 use Prim.Native.Nat.{ℕ, zero, suc, ◌+◌, ◌-◌, ◌≤◌, ◌<◌}
 use Rattle.std.specs.Prelude.{◌≡◌, List, [], ◌∷◌, ◌++◌, map, ltb, length, get_or, take, drop, set, if◌then◌else◌}
 use Rattle.std.proofs.Math.Path.{refl, ap}
-use Rattle.std.proofs.Common.{sym, ◌∙◌, arith, add-one, lt-ltb, le-ltb}
+use Rattle.std.proofs.Common.{◌∙◌, arith, add-one, lt-ltb, le-ltb}
 use Rattle.definitions.specs.Lists.{from, below}
 use Rattle.definitions.specs.Sheet.Text.{bytes, decimal}
 use Rattle.definitions.specs.Sheet.Formula.{write_each}
@@ -15,6 +15,7 @@ use Rattle.definitions.specs.Reply.Pddl
 use Lifted.{Term, parameter, object, relation_in}
 use Pddl.{term_word, bracketed, indented}
 use Rattle.laws.specs.Numbers.{no_relation}
+use Rattle.print_line.specs.Lines.{next_byte, no_byte}
 use Rattle.print_page.specs.Elements.{Names, name_in}
 use Rattle.print_words.specs.declared.Word.{Word}
 use Rattle.print_words.specs.declared.Terms.{Terms}
@@ -134,27 +135,13 @@ unfolding indented
 line_parts t = refl
 
 -- ---- terms one by one
-each_suc : (ks : List ℕ) (i m : ℕ) → i < m → i < length ks → each (drop i (take m ks)) ≡ 32 ∷ (term_word (term_by (get_or ks i 0)) ++ each (drop (suc i) (take m ks)))
+pub each_next : (ks : List ℕ) (i : ℕ) → i < length ks → each (drop i ks) ≡ (32 ∷ []) ++ (term_word (term_by (get_or ks i 0)) ++ each (drop (i + 1) ks))
 unfolding write_each
-each_suc [] i m h l = absurd (omega arith)
-each_suc (k ∷ ks) i zero h l = absurd (omega arith)
-each_suc (k ∷ ks) zero (suc m) h l = refl
-each_suc (k ∷ ks) (suc i) (suc m) h l = each_suc ks i m (omega arith) (omega arith)
+each_next ks i h = ap each (next_byte ks i h)
 
-pub each_next : (ks : List ℕ) (i m : ℕ) → i < m → i < length ks → each (drop i (take m ks)) ≡ (32 ∷ []) ++ (term_word (term_by (get_or ks i 0)) ++ each (drop (i + 1) (take m ks)))
-each_next ks i m h l = each_suc ks i m h l ∙ ap (λ (j : ℕ). 32 ∷ (term_word (term_by (get_or ks i 0)) ++ each (drop j (take m ks)))) (sym (add-one i))
-
-pub each_end : (ks : List ℕ) (i m : ℕ) → m ≤ i → each (drop i (take m ks)) ≡ []
+pub each_end : (ks : List ℕ) (i : ℕ) → length ks ≤ i → each (drop i ks) ≡ []
 unfolding write_each
-each_end ks i zero h = none i
-  where
-    none : (i : ℕ) → each (drop i []) ≡ []
-    none zero = refl
-    none (suc i) = refl
-each_end [] zero (suc m) h = refl
-each_end [] (suc i) (suc m) h = refl
-each_end (k ∷ ks) zero (suc m) h = absurd (omega arith)
-each_end (k ∷ ks) (suc i) (suc m) h = each_end ks i m (omega arith)
+each_end ks i h = ap each (no_byte ks i h)
 
 pub first_parameters : (k : ℕ) → k ≤ 6 → take k (0 ∷ 1 ∷ 2 ∷ 3 ∷ 4 ∷ 5 ∷ []) ≡ below k
 unfolding below from

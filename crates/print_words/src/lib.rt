@@ -48,12 +48,10 @@ fn listed(out: &mut [u8], at: usize, t: Terms) -> usize
     requires { TermsFit t }
     ensures { Emits (write_each (λ v. v) (map term_word (map term_by (codes_of t)))) out.old at out.new result }
 {
-    let mut i: usize = 0;
     let mut next = at;
-    while i < t.count {
+    for k in &t.at[..t.count] {
         let spaced = print_bytes::byte(out, next, 32);
-        next = term(out, spaced, t.at[i]);
-        i += 1;
+        next = term(out, spaced, *k);
     }
     next
 }

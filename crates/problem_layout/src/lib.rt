@@ -158,13 +158,11 @@ fn range_of(n: usize, members: &[u64], k: usize) -> Range
 {
     let mut count: usize = 0;
     let mut top: usize = 0;
-    let mut x: usize = 0;
-    while x < n {
+    for x in 0..n {
         if bits::get(members, 64 * k + x) {
             count += 1;
             top = x;
         }
-        x += 1;
     }
     Range { count, top }
 }
@@ -179,12 +177,10 @@ pub fn ranges_of(n: usize, types: usize, members: &[u64]) -> Ranges
     let last = n - 1;
     count[0] = n;
     top[0] = last;
-    let mut k: usize = 0;
-    while k < types {
+    for k in 0..types {
         let m = range_of(n, members, k);
-        k += 1;
-        count[k] = m.count;
-        top[k] = m.top;
+        count[k + 1] = m.count;
+        top[k + 1] = m.top;
     }
     Ranges { count, top }
 }
@@ -200,8 +196,7 @@ fn relation_starts(n: usize, ranges: Ranges, g: Relations) -> RelationStarts
     rel[0] = 3;
     let mut at: usize = 3;
     let mut sets: usize = 0;
-    let mut i: usize = 0;
-    while i < g.count {
+    for i in 0..g.count {
         let kind = g.kind[i];
         let size = rows::power(n, g.arity[i]);
         neg[i] = at + size;
@@ -210,9 +205,8 @@ fn relation_starts(n: usize, ranges: Ranges, g: Relations) -> RelationStarts
         let firsts = ranges.count[g.firsts[i]];
         let seconds = ranges.count[g.seconds[i]];
         sets = sets + set_width(size, firsts, seconds, kind);
-        i += 1;
-        rel[i] = at;
-        set[i] = sets;
+        rel[i + 1] = at;
+        set[i + 1] = sets;
     }
     RelationStarts {
         rel,
@@ -240,17 +234,15 @@ fn node_starts(
     act[0] = first;
     let mut at = from;
     let mut acts = first;
-    let mut v: usize = 0;
-    while v < t.count {
+    for v in 0..t.count {
         let row = t.rows[v];
         let kind = rule_nodes::wide(row.kind);
         let rows = rows::power(n, rule_nodes::wide(row.width));
         at = at + node_width(n, rows, kind);
         let count = ranges.count[rule_nodes::wide(row.sort)];
         acts = acts + rows * choices(count, kind, rule_nodes::wide(row.many));
-        v += 1;
-        node[v] = at;
-        act[v] = acts;
+        node[v + 1] = at;
+        act[v + 1] = acts;
     }
     NodeStarts {
         node,
@@ -261,14 +253,12 @@ fn node_starts(
 }
 
 // Whether the last relation is that of an `every` line.
+#[tactic(auto, unfolding(crate::specs::Laid::has_last))]
 pub fn has_last(g: Relations) -> bool
     requires { RelationsFit g }
     ensures { result ≡ has_last g }
 {
-    if g.count == 0 {
-        return false;
-    }
-    g.kind[g.count - 1] == 6
+    0 < g.count && g.kind[g.count - 1] == 6
 }
 
 // The same starts, but those of an `every` line's relation come behind the nodes, which end at `end`.
@@ -282,20 +272,10 @@ fn last_starts(n: usize, g: Relations, r: RelationStarts, end: usize) -> Relatio
         let mut rel = r.rel;
         let mut neg = r.neg;
         let mut dom = r.dom;
-        let set = r.set;
-        let at = r.at;
-        let sets = r.sets;
         rel[e] = end;
         neg[e] = end + size;
         dom[e] = end + (size + size);
-        return RelationStarts {
-            rel,
-            neg,
-            dom,
-            set,
-            at,
-            sets,
-        };
+        return RelationStarts { rel, neg, dom, ..r };
     }
     r
 }
@@ -309,6 +289,7 @@ pub fn lay_out(n: usize, ranges: Ranges, g: Relations, t: rule_nodes::Nodes) -> 
     let first = r.sets + 1;
     let s = node_starts(n, ranges, t, r.at, first);
     let e = last_starts(n, g, r, s.at);
+    // each array goes through a variable: it cannot be put into a literal straight from a field
     let rel = e.rel;
     let neg = e.neg;
     let dom = e.dom;
@@ -330,11 +311,7 @@ pub fn store(table: &mut [usize], at: usize, line: &[usize])
     requires { at + length line.now ≤ length table.old }
     ensures { table.new ≡ splice at line.now table.old }
 {
-    let mut j: usize = 0;
-    while j < line.len() {
-        table[at + j] = line[j];
-        j += 1;
-    }
+    table[at..at + line.len()].copy_from_slice(line);
 }
 
 // Where the range of a place of a relation of that kind starts, and how many of the elements of its sort it has: only a function kind
@@ -369,8 +346,7 @@ fn fill_relations(table: &mut [usize], g: Relations, l: Layout, ranges: Ranges)
     requires { (length table.old ≡ table_length) × RelationsFit g }
     ensures { table.new ≡ splice relations_place (relation_lines ranges.count g l) table.old }
 {
-    let mut r: usize = 0;
-    while r < g.count {
+    for r in 0..g.count {
         let kind = g.kind[r];
         let firsts = place_start(kind, g.firsts[r]);
         let first_count = place_count(ranges.count[g.firsts[r]], kind);
@@ -392,12 +368,11 @@ fn fill_relations(table: &mut [usize], g: Relations, l: Layout, ranges: Ranges)
             problem_table::RELATION_AT + problem_table::RELATION_LINE * r,
             &line,
         );
-        r += 1;
     }
-    let last = [l.set[r], l.rel[r], 0, 0, 0, 0, 0, 0, 0];
+    let last = [l.set[g.count], l.rel[g.count], 0, 0, 0, 0, 0, 0, 0];
     store(
         table,
-        problem_table::RELATION_AT + problem_table::RELATION_LINE * r,
+        problem_table::RELATION_AT + problem_table::RELATION_LINE * g.count,
         &last,
     );
 }
@@ -454,8 +429,7 @@ fn fill_nodes(table: &mut [usize], n: usize, t: Nodes, l: Layout, ranges: Ranges
     requires { (length table.old ≡ table_length) × RangesFit n ranges × Fits t × Small l number_limit }
     ensures { (table.new ≡ splice nodes_place (node_lines ranges.count t l) table.old) × ((v : ℕ) → v < t.count → Most (node_numbers ranges.count t l v) (2 ^ 32)) }
 {
-    let mut v: usize = 0;
-    while v < t.count {
+    for v in 0..t.count {
         let x = t.rows[v];
         let many = ranges.count[rule_nodes::wide(x.sort)];
         let line = node_numbers(many, l.act[v], l.node[v], x);
@@ -464,12 +438,25 @@ fn fill_nodes(table: &mut [usize], n: usize, t: Nodes, l: Layout, ranges: Ranges
             problem_table::NODE_AT + problem_table::NODE_LINE * v,
             &line,
         );
-        v += 1;
     }
-    let last = [l.act[v], l.node[v], 0, 0, 0, 0, 0, 0, 0, 0, 0, 0, 0];
+    let last = [
+        l.act[t.count],
+        l.node[t.count],
+        0,
+        0,
+        0,
+        0,
+        0,
+        0,
+        0,
+        0,
+        0,
+        0,
+        0,
+    ];
     store(
         table,
-        problem_table::NODE_AT + problem_table::NODE_LINE * v,
+        problem_table::NODE_AT + problem_table::NODE_LINE * t.count,
         &last,
     );
 }
@@ -510,8 +497,7 @@ fn fill_parts(table: &mut [usize], n: usize, t: Nodes, l: Layout, ranges: Ranges
     let rel = l.rel;
     let neg = l.neg;
     let node = l.node;
-    let mut i: usize = 0;
-    while i < t.placed {
+    for i in 0..t.placed {
         let q = t.parts[i];
         let start = start_of(&rel, &neg, &node, q.tag, rule_nodes::wide(q.which));
         let top = ranges.top[rule_nodes::wide(q.sort)];
@@ -521,7 +507,6 @@ fn fill_parts(table: &mut [usize], n: usize, t: Nodes, l: Layout, ranges: Ranges
             problem_table::PART_AT + problem_table::PART_LINE * i,
             &line,
         );
-        i += 1;
     }
     let q = t.root;
     let start = start_of(&rel, &neg, &node, q.tag, rule_nodes::wide(q.which));
@@ -535,10 +520,8 @@ pub fn fill_range(table: &mut [usize], at: usize, n: usize)
     requires { at + n ≤ length table.old }
     ensures { table.new ≡ splice at (below n) table.old }
 {
-    let mut i: usize = 0;
-    while i < n {
+    for i in 0..n {
         table[at + i] = i;
-        i += 1;
     }
 }
 
@@ -548,13 +531,11 @@ fn fill_members(table: &mut [usize], at: usize, n: usize, members: &[u64], k: us
     ensures { table.new ≡ splice at (range_by n members.now (suc k)) table.old }
 {
     let mut i: usize = 0;
-    let mut x: usize = 0;
-    while x < n {
+    for x in 0..n {
         if bits::get(members, 64 * k + x) {
             table[at + i] = x;
             i += 1;
         }
-        x += 1;
     }
 }
 
@@ -564,8 +545,7 @@ pub fn fill_ranges(table: &mut [usize], at: usize, n: usize, types: usize, membe
     ensures { table.new ≡ with_ranges at n members.now types table.old }
 {
     fill_range(table, at, n);
-    let mut k: usize = 0;
-    while k < types {
+    for k in 0..types {
         fill_members(
             table,
             at + problem_table::RANGE_LINE * (k + 1),
@@ -573,7 +553,6 @@ pub fn fill_ranges(table: &mut [usize], at: usize, n: usize, types: usize, membe
             members,
             k,
         );
-        k += 1;
     }
 }
 

@@ -13,23 +13,7 @@ ghost use Rattle.problem_layout.specs.Laid.{Inputs};
 fn found(before: bool, tag: u8, which: usize, marked: bool, r: usize) -> bool
     ensures { result ≡ (before || (if ltb tag 2 then eqb which r else marked)) }
 {
-    if before {
-        return true;
-    }
-    if tag < 2 {
-        return which == r;
-    }
-    marked
-}
-
-// The atoms of a node, if it is marked.
-fn counted(marked: bool, width: usize) -> usize
-    ensures { result ≡ (if marked then width else 0) }
-{
-    if marked {
-        return width;
-    }
-    0
+    before || if tag < 2 { which == r } else { marked }
 }
 
 // One more than the atoms of all nodes that have a literal of relation r below them. Nodes are marked from the last one up, so that
@@ -40,26 +24,21 @@ pub fn allowance(n: usize, t: rule_nodes::Nodes, r: usize) -> usize
 {
     let mut marks = [false; rule_nodes::NODES];
     let mut total: usize = 1;
-    let mut done: usize = 0;
-    'nodes: while done < t.count {
-        done += 1;
-        let v = t.count - done;
+    for v in (0..t.count).rev() {
         let row = t.rows[v];
         let first = rule_nodes::wide(row.first);
         let many = rule_nodes::wide(row.many);
         let mut hit = false;
-        let mut k: usize = 0;
-        'parts: while k < many {
-            let q = t.parts[first + k];
+        for q in &t.parts[first..first + many] {
             let which = rule_nodes::wide(q.which);
-            let marked = marks[which];
-            hit = found(hit, q.tag, which, marked, r);
-            k += 1;
+            hit = found(hit, q.tag, which, marks[which], r);
         }
         marks[v] = hit;
         let kind = rule_nodes::wide(row.kind);
         let rows = rows::power(n, rule_nodes::wide(row.width));
-        total = total + counted(hit, problem_layout::node_width(n, rows, kind));
+        if hit {
+            total += problem_layout::node_width(n, rows, kind);
+        }
     }
     total
 }

@@ -1,7 +1,8 @@
 -- A case that was read, and the table of its numbered problem.
 use Prim.Native.Nat.{ℕ, zero, suc, ◌+◌, ◌*◌, ◌≤◌, ◌<◌}
-use Rattle.std.specs.Prelude.{◌≡◌, Bool, true, false, T, ltb, get_or}
-use Rattle.std.proofs.Math.Path.{refl, sym, ap, subst}
+use Rattle.std.specs.Prelude.{◌≡◌, Bool, true, false, T, ltb, get_or, Ok, Err}
+use Rattle.std.specs.Prelude as P
+use Rattle.std.proofs.Math.Path.{refl, sym, ap, ap₂, subst}
 use Rattle.std.proofs.Common.{◌∙◌, le-ltb, arith}
 use Rattle.std.proofs.Math.Option.{Option, none, some}
 use mathlib.Core.List.{List, []}
@@ -20,6 +21,8 @@ use Rattle.laws.specs.Lists.{below_lt, filter_same}
 use Rattle.laws.specs.Members.{members_are}
 use Rattle.laws.specs.Sorts.{Sorted, tree_sorted}
 use Rattle.bits.specs.Table.{bit}
+use Rattle.refusal.specs.declared.Refusal.{Refusal}
+use Rattle.refusal.specs.Numbers.{number_of, some_number}
 use Rattle.read_rule.specs.Seen.{rule_number}
 use Rattle.rule_rewrite.specs.Rule.{Accepted, IsQuestion, TableOf}
 use Rattle.definitions.specs.Problem.Truth.{Case, members_of}
@@ -53,7 +56,6 @@ pub record Read (s : List ℕ) (o : Opened) : Type 0 where
 
 -- the table w is that of the problem p, whose counts are these
 pub record Tabled (p : Problem) (r : Sized) (w : List ℕ) : Type 0 where
-  pub within : r.refusal ≡ 0
   pub atoms_are : r.atoms ≡ atoms p
   pub actions_are : r.actions ≡ actions p
   pub bound_is : r.bound ≡ bound p
@@ -61,15 +63,15 @@ pub record Tabled (p : Problem) (r : Sized) (w : List ℕ) : Type 0 where
   pub is : Is p w
   pub ends : (node_line w (nodes_in w)).atoms + 3 * every_in w ≡ atoms p
 
--- what grounding a case gives: 11 or 23, place 0, or the table of its problem
-pub record Over (k place : ℕ) (r : Sized) : Type 0 where
-  pub over : r.refusal ≡ 0 → ⊥
-  pub number : k ≡ r.refusal
-  pub no_place : place ≡ 0
+-- what grounding a case tells: a refusal, or the table of its problem
+abbrev pub GroundsTo : Result Problem → P.Result Sized Refusal → List ℕ → Type 0
+GroundsTo x (Ok r) w = (p : Problem) × (x ≡ accepted p) × Tabled p r w
+GroundsTo x (Err e) w = x ≡ refused (number_of e.cause) e.place
 
-unfoldable pub GroundsTo : Result Problem → Sized → List ℕ → Type 0
-GroundsTo (refused k place) r w = Over k place r
-GroundsTo (accepted p) r w = Tabled p r w
+-- whether the counts are within the limits: else 11 or 23, place 0
+abbrev pub Within : Tally → Limits → P.Result (Unit {0}) Refusal → Type 0
+Within t l (Ok u) = refusal_in t l ≡ 0
+Within t l (Err e) = (refusal_in t l ≡ number_of e.cause) × (e.place ≡ 0)
 
 -- ---- laws
 some_listed : (x : Option Relation) → T (is_some x) → length (listed x) ≡ 1
@@ -183,25 +185,17 @@ module _ (s : List ℕ) (o : Opened) (c : Case) (facts : ℕ → Bool) (h : Hold
     }
 
 -- ---- by the walk's counts
-module _ (L : CaseLimits) (l : Limits) (c : Case) (t : Tally) (i : L.atoms ≡ l.atoms) (j : L.actions ≡ l.actions) (k : L.steps ≡ l.steps) (h : Tallied (problem_of c) t)
-    (n : ℕ) (r : Sized) (told : r ≡ record { refusal = n; atoms = t.atoms; actions = t.actions; bound = t.bound }) (w : List ℕ) where
-  pub grounds_over : n ≡ refusal_in t l → (n ≡ 0 → ⊥) → GroundsTo (ground L c) r w
-  unfolding GroundsTo
-  grounds_over e o =
-      let q : r.refusal ≡ n = ap (λ (x : Sized). x.refusal) told in
-      subst (λ (x : Result Problem). GroundsTo x r w) (sym (refused_by c t h L l i j k (λ z. o (e ∙ z)))) (record { over = λ z. o (sym q ∙ z); number = sym (q ∙ e); no_place = refl })
+module _ (L : CaseLimits) (l : Limits) (c : Case) (t : Tally) (i : L.atoms ≡ l.atoms) (j : L.actions ≡ l.actions) (k : L.steps ≡ l.steps) (h : Tallied (problem_of c) t) where
+  pub grounds_over : (e : Refusal) → Within t l (Err e) → ground L c ≡ refused (number_of e.cause) e.place
+  grounds_over e (n, z) = refused_by c t h L l i j k (λ y. omega (arith, some_number e.cause, n)) ∙ ap₂ refused n (sym z)
 
-  pub grounds_within : n ≡ 0 → refusal_in t l ≡ 0 → Fits w → Is (problem_of c) w → (node_line w (nodes_in w)).atoms + 3 * every_in w ≡ atoms (problem_of c) → GroundsTo (ground L c) r w
-  unfolding GroundsTo
-  grounds_within z e f is ends = subst (λ (x : Result Problem). GroundsTo x r w) (sym (grounded_by c t h L l i j k e)) (record {
-    within = ap (λ (x : Sized). x.refusal) told ∙ z;
-    atoms_are = ap (λ (x : Sized). x.atoms) told ∙ atoms_told c t h;
-    actions_are = ap (λ (x : Sized). x.actions) told ∙ actions_told c t h;
-    bound_is = ap (λ (x : Sized). x.bound) told ∙ bound_within c t h l e;
-    fits = f;
-    is = is;
-    ends = ends;
-  })
+  pub grounds_within : refusal_in t l ≡ 0 → (w : List ℕ) → Fits w → Is (problem_of c) w → (node_line w (nodes_in w)).atoms + 3 * every_in w ≡ atoms (problem_of c)
+      → GroundsTo (ground L c) (Ok (record { atoms = t.atoms; actions = t.actions; bound = t.bound })) w
+  grounds_within e w f is ends = (
+    problem_of c,
+    grounded_by c t h L l i j k e,
+    record { atoms_are = atoms_told c t h; actions_are = actions_told c t h; bound_is = bound_within c t h l e; fits = f; is = is; ends = ends },
+  )
 
 -- ... and then they are within the limits
 pub counts_few : (l : Limits) (c : Case) (t : Tally) → Tallied (problem_of c) t → refusal_in t l ≡ 0 → (atoms (problem_of c) ≤ l.atoms) × (actions (problem_of c) ≤ l.actions)

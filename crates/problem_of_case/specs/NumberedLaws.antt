@@ -1,16 +1,17 @@
 -- One turn of the loop over a signature's relations.
-use Rattle.std.specs.Prelude.{◌≡◌, refl, ℕ, zero, suc, ◌+◌, ◌-◌, ◌≤◌, ◌<◌, length, get_or, set, replicate}
+use Rattle.std.specs.Prelude.{◌≡◌, refl, ℕ, zero, suc, ◌+◌, ◌-◌, ◌≤◌, ◌<◌, length, get_or, set, replicate, ltb, if◌then◌else◌}
 use Rattle.std.proofs.Math.Path.{sym, subst}
 use Rattle.std.proofs.Common.{ap, ◌∙◌, length-append, get_or-set_same, get_or-set_other}
 use mathlib.Core.List.{List, [], ◌∷◌}
 use Rattle.std.proofs.Math.Decide.{ℕ_discrete, dec_lt}
 use native.Mathlib.Omega.{arith}
+use borrow.Author.Tests.{lt-ltb, le-ltb}
 use Rattle.std.proofs.Math.Seq.{set_out}
 use Rattle.definitions.specs.Sheet.Relations.{built_in}
 use Rattle.read_text.specs.Spans.{kind_of}
 use Rattle.read_names.specs.Signatures.{all_of, relations_from, HasArity, HasKind, HasFirsts, HasSeconds}
 use Rattle.read_names.specs.declared.Signature.{Signature}
-use Rattle.read_names.proofs.Laws.{all_are, length_relations, arity_built_in, arity_declared, kind_declared, firsts_built_in, firsts_declared, seconds_built_in, seconds_declared}
+use Rattle.read_names.proofs.Laws.{all_are, length_relations, arity_built_in, arity_declared, kind_built_in, kind_declared, firsts_built_in, firsts_declared, seconds_built_in, seconds_declared}
 use Rattle.rows.specs.Values.{Most}
 use Rattle.problem_table.specs.Of.{kind_number}
 use Rattle.problem_layout.specs.Laid.{RelationsFit}
@@ -98,6 +99,21 @@ module _ (r : ℕ) (l : 5 ≤ r) where
 pub sort_built_in : (xs : List ℕ) (r : ℕ) → r < 5 → SortAt xs r 0
 unfolding SortAt
 sort_built_in xs r l g h one = ((λ e. firsts_built_in g one r l), (λ e. seconds_built_in g one r l))
+
+-- whether it is built in or declared
+pub kind_at : (xs : List ℕ) (r : ℕ) (g : Signature) → g.kind ≡ xs → r < 5 + (g.rels + g.chosen + g.every) → g.every ≤ 1 → HasKind g r (if ltb r 5 then 0 else get_or xs (r - 5) 0)
+kind_at xs r g e h one = by_place (dec_lt r 5)
+  where
+    by_place : Dec (r < 5) → HasKind g r (if ltb r 5 then 0 else get_or xs (r - 5) 0)
+    by_place (yes l) = rw (lt-ltb r 5 l) (kind_built_in g one r l)
+    by_place (no l) = rw (le-ltb r 5 (omega arith)) (kind_of_lem r (omega arith) xs g e h one)
+
+pub sort_at : (xs : List ℕ) (r : ℕ) → SortAt xs r (if ltb r 5 then 0 else get_or xs (r - 5) 0)
+sort_at xs r = by_place (dec_lt r 5)
+  where
+    by_place : Dec (r < 5) → SortAt xs r (if ltb r 5 then 0 else get_or xs (r - 5) 0)
+    by_place (yes l) = rw (lt-ltb r 5 l) (sort_built_in xs r l)
+    by_place (no l) = rw (le-ltb r 5 (omega arith)) (sort_of_lem r (omega arith) xs)
 
 -- ---- sorts
 module _ (g : Signature) (r a : ℕ) (d : Declared g) (h : r < 5 + (g.rels + g.chosen + g.every)) where

@@ -54,21 +54,11 @@ fn bare_layout(n: usize, g: Relations, l: Layout) -> Layout
         let mut rel = l.rel;
         let mut neg = l.neg;
         let mut dom = l.dom;
-        let set = l.set;
-        let node = l.node;
-        let act = l.act;
         let end = rel[g.count];
         rel[e] = end;
-        neg[e] = bits::least(end + size, neg[e]);
-        dom[e] = bits::least(end + (size + size), dom[e]);
-        return Layout {
-            rel,
-            neg,
-            dom,
-            set,
-            node,
-            act,
-        };
+        neg[e] = (end + size).min(neg[e]);
+        dom[e] = (end + (size + size)).min(dom[e]);
+        return Layout { rel, neg, dom, ..l };
     }
     l
 }

@@ -47,8 +47,7 @@ fn of_relations(n: usize, ranges: Ranges, g: Relations) -> Before
     let mut atoms: usize = 3;
     let mut sets: usize = 0;
     let mut picks: usize = 0;
-    let mut i: usize = 0;
-    while i < g.count {
+    for i in 0..g.count {
         let kind = g.kind[i];
         let size = rows::power(n, g.arity[i]);
         atoms = atoms + problem_layout::relation_width(n, size, kind);
@@ -56,15 +55,13 @@ fn of_relations(n: usize, ranges: Ranges, g: Relations) -> Before
         let seconds = ranges.count[g.seconds[i]];
         sets = sets + problem_layout::set_width(size, firsts, seconds, kind);
         picks = picks + problem_layout::most_width(n, size, kind);
-        i += 1;
     }
     Before { atoms, sets, picks }
 }
 
-// What the nodes have, and how many were visited.
+// What the nodes have.
 #[derive(Clone, Copy)]
 struct Walked {
-    nodes: usize,
     atoms: usize,
     actions: usize,
 }
@@ -72,25 +69,18 @@ struct Walked {
 // The one walk: every node once, in preorder.
 fn of_nodes(n: usize, ranges: Ranges, t: rule_nodes::Nodes) -> Walked
     requires { (0 < n) × (n ≤ 64) × Fits t × RangesFit n ranges }
-    ensures { NodesSummed n ranges.count t t.count result.nodes result.atoms result.actions }
+    ensures { NodesSummed n ranges.count t t.count t.count result.atoms result.actions }
 {
     let mut atoms: usize = 0;
     let mut actions: usize = 0;
-    let mut nodes: usize = 0;
-    while nodes < t.count {
-        let row = t.rows[nodes];
+    for row in &t.rows[..t.count] {
         let kind = rule_nodes::wide(row.kind);
         let rows = rows::power(n, rule_nodes::wide(row.width));
         atoms = atoms + problem_layout::node_width(n, rows, kind);
         let count = ranges.count[rule_nodes::wide(row.sort)];
         actions = actions + rows * problem_layout::choices(count, kind, rule_nodes::wide(row.many));
-        nodes += 1;
     }
-    Walked {
-        nodes,
-        atoms,
-        actions,
-    }
+    Walked { atoms, actions }
 }
 
 // How many tuples the relation of an `every` line has; 0 where there is none.
@@ -123,7 +113,6 @@ pub fn of_tables(n: usize, ranges: Ranges, g: Relations, t: rule_nodes::Nodes) -
     let b = of_relations(n, ranges, g);
     let w = of_nodes(n, ranges, t);
     let tuples = every_tuples(n, g);
-    let nodes = w.nodes;
     let every = 0 < tuples;
     let atoms = b.atoms + w.atoms + 3 * tuples;
     let actions = b.sets + 1 + (w.actions + 1) + 2 * tuples;
@@ -131,7 +120,7 @@ pub fn of_tables(n: usize, ranges: Ranges, g: Relations, t: rule_nodes::Nodes) -
     let elements = n;
     Tally {
         elements,
-        nodes,
+        nodes: t.count,
         every,
         tuples,
         atoms,

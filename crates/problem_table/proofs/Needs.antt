@@ -3,7 +3,7 @@ use Rattle.std.specs.Prelude.{◌≡◌}
 use Rattle.std.proofs.Math.Path.{refl, sym, ap}
 use Rattle.std.proofs.Common.{◌∙◌}
 use mathlib.Core.List.{List, map}
-use Prim.Native.Nat.{ℕ, ◌-◌}
+use Prim.Native.Nat.{ℕ}
 use Rattle.definitions.specs.Lists.{all}
 use Rattle.definitions.specs.Problem.Atoms.{Problem, State, atom_number}
 use Rattle.definitions.specs.Problem.Actions.{Action, needs}

@@ -21,7 +21,7 @@ use Rattle.definitions.specs.Problem.Tree.{Tree, Trees, end, ◌then◌, leaf, f
 use Rattle.definitions.specs.Problem.Atoms.{Problem, State, relation_at, node_at, relation_start, node_start, last_start, tuples_of, rows_of, node_width, Atom, not_tuple, free_domain, free_range, holds_node, marked, goal, atom_number, atoms}
 use Rattle.definitions.specs.Problem.Actions.{Values, with_value, values_at, part_atom, part_atoms, under_atom, free_atoms, forall_needs}
 use Rattle.definitions.specs.Problem.Actions.{Action, set, begin_proof, prove_and, prove_or, prove_exists, prove_forall, prove_goal, round_end, mark_in, mark_out, finish, root_atom, mark_or_goal, nodes_atoms, needs, adds, removes, set_rows, sets_of}
-use Rattle.definitions.specs.Problem.Strips.{may_take, after}
+use Rattle.definitions.specs.Problem.Strips.{after}
 use Rattle.laws.specs.Booleans.{T_of, T_true, T_false}
 use Rattle.laws.specs.Lists.{from_append}
 use Rattle.laws.specs.SetRows.{row_below, sets_le, no_rows, plain_rows, free_rows, all_row, pair_count, pair_row}

@@ -132,16 +132,7 @@ pub fn relation_line(table: &[usize], r: usize) -> RelationLine
 pub fn is_whole(line: RelationLine) -> bool
     ensures { result ≡ is_whole line }
 {
-    if line.kind < 2 {
-        return true;
-    }
-    if 5 < line.kind {
-        return true;
-    }
-    if line.firsts == RANGE_AT {
-        return line.seconds == RANGE_AT;
-    }
-    false
+    !(2..6).contains(&line.kind) || (line.firsts == RANGE_AT && line.seconds == RANGE_AT)
 }
 
 // The line of the last relation.
@@ -157,14 +148,12 @@ pub fn last_line(table: &[usize]) -> RelationLine
 }
 
 // Whether the last relation is that of an `every` line.
+#[tactic(auto, unfolding(crate::specs::Lines::has_every))]
 pub fn has_every(table: &[usize]) -> bool
     requires { Fits table.now }
     ensures { result ≡ has_every table.now }
 {
-    if table[1] == 0 {
-        return false;
-    }
-    last_line(table).kind == 6
+    table[1] != 0 && last_line(table).kind == 6
 }
 
 // How many tuples the relation of the `every` line has; 0 where there is no such line.
@@ -174,9 +163,7 @@ pub fn every_tuples(table: &[usize]) -> usize
 {
     if has_every(table) {
         let line = last_line(table);
-        if line.tuples < line.nots {
-            return line.nots - line.tuples;
-        }
+        return line.nots.saturating_sub(line.tuples);
     }
     0
 }
@@ -251,10 +238,7 @@ pub fn part_number(q: PartLine, env: [usize; 4]) -> usize
 pub fn test(words: &[u64], i: usize) -> bool
     ensures { result ≡ bit words.now i }
 {
-    if i / 64 < words.len() {
-        return bits::get(words, i);
-    }
-    false
+    i / 64 < words.len() && bits::get(words, i)
 }
 
 // The first k words of src become those of dst. (That a word has 64 bits is known where one is read.)
@@ -262,11 +246,7 @@ pub fn copy(dst: &mut [u64], src: &[u64], k: usize)
     requires { (k ≤ length dst.old) × (k ≤ length src.now) }
     ensures { (dst.new ≡ written («take_of» k src.now) dst.old) × (0 < k → Words src.now) }
 {
-    let mut i: usize = 0;
-    while i < k {
-        dst[i] = src[i];
-        i += 1;
-    }
+    dst[..k].copy_from_slice(&src[..k]);
 }
 
 // Whether the atom of a part holds at the values of levels.
@@ -284,16 +264,7 @@ fn free_hold(state: &[u64], n: usize, kind: usize, free: usize, row: usize) -> b
     requires { (0 < n) × (n ≤ 64) × (free ≤ 2 ^ 32) × (row ≤ 2 ^ 32) }
     ensures { result ≡ all (bit state.now) (free_numbers n kind free row) }
 {
-    if kind < 2 {
-        return true;
-    }
-    if test(state, free + row / n) {
-        if kind < 4 {
-            return true;
-        }
-        return test(state, free + n + row % n);
-    }
-    false
+    kind < 2 || (test(state, free + row / n) && (kind < 4 || test(state, free + n + row % n)))
 }
 
 // Whether all that setting a tuple needs holds.
@@ -301,12 +272,7 @@ fn may_set(state: &[u64], n: usize, k: RelationLine, row: usize) -> bool
     requires { (0 < n) × (n ≤ 64) × (k.nots ≤ 2 ^ 32) × (k.free ≤ 2 ^ 32) × (row ≤ 2 ^ 32) }
     ensures { result ≡ all (bit state.now) (set_needs n k row) }
 {
-    if test(state, 0) {
-        if test(state, k.nots + row) {
-            return free_hold(state, n, k.kind, k.free, row);
-        }
-    }
-    false
+    test(state, 0) && test(state, k.nots + row) && free_hold(state, n, k.kind, k.free, row)
 }
 
 // Whether the atoms of `many` parts hold, from part `first` on.
@@ -320,11 +286,8 @@ pub fn parts_hold(
     requires { Fits table.now × (first + many ≤ 64) × Most env 64 }
     ensures { result ≡ all (bit state.now) (map (part_at table.now (value_in env)) (from first many)) }
 {
-    let mut k: usize = 0;
-    while k < many {
-        if part_holds(state, table, first + k, env) {
-            k += 1;
-        } else {
+    for k in 0..many {
+        if !part_holds(state, table, first + k, env) {
             return false;
         }
     }
@@ -338,10 +301,7 @@ fn may_and(state: &[u64], n: usize, table: &[usize], v: NodeLine, row: usize) ->
 {
     let levels = v.levels;
     let env = rows::values_of(n, levels, v.width, row);
-    if test(state, 1) {
-        return parts_hold(state, table, v.first, v.many, env);
-    }
-    false
+    test(state, 1) && parts_hold(state, table, v.first, v.many, env)
 }
 
 // Whether all that proving an `or` by a part needs holds.
@@ -351,10 +311,7 @@ fn may_or(state: &[u64], n: usize, table: &[usize], v: NodeLine, row: usize, i: 
 {
     let levels = v.levels;
     let env = rows::values_of(n, levels, v.width, row);
-    if test(state, 1) {
-        return part_holds(state, table, v.first + i, env);
-    }
-    false
+    test(state, 1) && part_holds(state, table, v.first + i, env)
 }
 
 // Whether the part under a quantifier holds at an element.
@@ -380,10 +337,7 @@ fn may_exists(state: &[u64], n: usize, table: &[usize], v: NodeLine, row: usize,
     requires { (0 < n) × (n ≤ 64) × Fits table.now × NodeFits v × (x < n) }
     ensures { result ≡ all (bit state.now) (exists_needs n table.now v row x) }
 {
-    if test(state, 1) {
-        return under_holds(state, n, table, v, row, x);
-    }
-    false
+    test(state, 1) && under_holds(state, n, table, v, row, x)
 }
 
 // y and 1 where y is below z; what was found so far where it is not.
@@ -405,10 +359,8 @@ pub fn element_before(table: &[usize], range: usize, count: usize, z: usize) -> 
         return z;
     }
     let mut found: usize = 0;
-    let mut i: usize = 0;
-    while i < count {
-        found = latest(found, table[range + i], z);
-        i += 1;
+    for y in &table[range..range + count] {
+        found = latest(found, *y, z);
     }
     found
 }
@@ -418,14 +370,9 @@ fn may_forall(state: &[u64], n: usize, table: &[usize], v: NodeLine, row: usize,
     requires { (0 < n) × (n ≤ 64) × Fits table.now × NodeFits v × RangeFits table.now v × (n ≡ size_in table.now) × (v.atoms ≤ 2 ^ 32) × (row ≤ 2 ^ 32) × (z < n) }
     ensures { result ≡ all (bit state.now) (forall_needs n table.now v row z) }
 {
-    if test(state, 1) {
-        if under_holds(state, n, table, v, row, z) {
-            let y = element_before(table, v.range, v.count, z);
-            if y == 0 {
-                return true;
-            }
-            return test(state, v.atoms + (row * n + (y - 1)));
-        }
+    if test(state, 1) && under_holds(state, n, table, v, row, z) {
+        let y = element_before(table, v.range, v.count, z);
+        return y == 0 || test(state, v.atoms + (row * n + (y - 1)));
     }
     false
 }
@@ -443,10 +390,7 @@ fn may_goal(state: &[u64], table: &[usize]) -> bool
 fn may_mark(state: &[u64], mark: usize, old: usize) -> bool
     ensures { result ≡ all (bit state.now) (mark ∷ old ∷ []) }
 {
-    if test(state, mark) {
-        return test(state, old);
-    }
-    false
+    test(state, mark) && test(state, old)
 }
 
 // Whether all that an action needs holds.
@@ -477,7 +421,7 @@ pub fn may_take(state: &[u64], table: &[usize], a: Act) -> bool
     }
 }
 
-// Bit i is cleared; past the end none is set.
+// Bit i is cleared; past the end none is set. (No flag makes one function of this and the next: clearing asks nothing of the table's length.)
 fn clear(words: &mut [u64], i: usize)
     ensures { bit words.new ≡ changed (bit words.old) (i ∷ []) [] }
 {
@@ -536,11 +480,8 @@ fn clear_run(words: &mut [u64], start: usize, to: usize)
     ensures { bit words.new ≡ changed (bit words.old) (from start (to - start)) [] }
 {
     let end = inside(words, to);
-    let mut k = start;
-    while k < end {
-        let c = bits::least(64, end - k);
-        bits::store(words, k, c, 0);
-        k += c;
+    for k in (start..end).step_by(64) {
+        bits::store(words, k, (end - k).min(64), 0);
     }
 }
 

@@ -6,7 +6,7 @@ use Rattle.std.proofs.Math.Bool.{true, false}
 use mathlib.Core.List.{List, [], ◌∷◌, ◌++◌, map}
 use Prim.Native.Nat.{ℕ, zero, suc, ◌+◌, ◌-◌, ◌*◌, ◌<◌, ◌≤◌, max, min}
 use Rattle.std.proofs.Math.Decide.{ℕ_discrete}
-use Rattle.std.proofs.Math.Nat.{max-le, min-le_right, min-eq_left, min-eq_right, max-zero}
+use Rattle.std.proofs.Math.Nat.{max-le, min-le_right, max-zero}
 use native.Mathlib.Omega.{arith}
 use Rattle.std.proofs.Math.Dec.{eqb, ltb}
 use Rattle.std.proofs.Math.ListN.{length, get_or, length-set, length-replicate}
@@ -39,11 +39,8 @@ gives_node tag known h = rw (le-ltb tag 2 h) refl
 pub lesser_first : (before a b : ℕ) → before ≡ 0 → b ≡ (if eqb before 0 then b else min a b)
 lesser_first before a b e = rw (eq-eqb before 0 e) refl
 
-pub lesser_left : (before a b : ℕ) → (before ≡ 0 → ⊥) → a < b → a ≡ (if eqb before 0 then b else min a b)
-lesser_left before a b n h = rw (ne_eqb before 0 n) (sym (min-eq_left (omega arith)))
-
-pub lesser_right : (before a b : ℕ) → (before ≡ 0 → ⊥) → b ≤ a → b ≡ (if eqb before 0 then b else min a b)
-lesser_right before a b n h = rw (ne_eqb before 0 n) (sym (min-eq_right h))
+pub lesser_next : (before a b : ℕ) → (before ≡ 0 → ⊥) → min a b ≡ (if eqb before 0 then b else min a b)
+lesser_next before a b n = rw (ne_eqb before 0 n) refl
 
 pub lower_forall : (kind count least greatest : ℕ) → kind ≡ 0 → count + greatest ≡ lower_by kind count least greatest
 unfolding lower_by

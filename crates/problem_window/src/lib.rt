@@ -29,28 +29,6 @@ fn part_gives(tag: u8, known: usize) -> usize
     known
 }
 
-fn greater(a: usize, b: usize) -> usize
-    ensures { result ≡ max a b }
-{
-    if a < b {
-        return b;
-    }
-    a
-}
-
-// The lesser of both, or b where nothing came before it.
-fn lesser(before: usize, a: usize, b: usize) -> usize
-    ensures { result ≡ (if eqb before 0 then b else min a b) }
-{
-    if before == 0 {
-        return b;
-    }
-    if a < b {
-        return a;
-    }
-    b
-}
-
 // The lower number of a node: of a `forall` (kind 0) as many as its range has more than its part's, of an `or` (kind 3) one more than the
 // least of its parts', of the others one more than the greatest.
 fn node_lower(kind: usize, count: usize, least: usize, greatest: usize) -> usize
@@ -84,38 +62,27 @@ pub fn of_tables(n: usize, ranges: Ranges, t: rule_nodes::Nodes) -> Window
 {
     let mut lows = [0usize; rule_nodes::NODES];
     let mut highs = [0usize; rule_nodes::NODES];
-    let mut done: usize = 0;
-    'nodes: while done < t.count {
-        done += 1;
-        let v = t.count - done;
+    for v in (0..t.count).rev() {
         let row = t.rows[v];
         let first = rule_nodes::wide(row.first);
         let many = rule_nodes::wide(row.many);
         let mut least: usize = 0;
         let mut low: usize = 0;
         let mut high: usize = 0;
-        let mut k: usize = 0;
-        'parts: while k < many {
-            let q = t.parts[first + k];
+        for (k, q) in t.parts[first..first + many].iter().enumerate() {
             let which = rule_nodes::wide(q.which);
-            let known = lows[which];
-            let x = part_gives(q.tag, known);
-            let known_high = highs[which];
-            let y = part_gives(q.tag, known_high);
-            least = lesser(k, least, x);
-            low = greater(low, x);
-            high = greater(high, y);
-            k += 1;
+            let x = part_gives(q.tag, lows[which]);
+            least = if k == 0 { x } else { least.min(x) };
+            low = low.max(x);
+            high = high.max(part_gives(q.tag, highs[which]));
         }
         let kind = rule_nodes::wide(row.kind);
-        let sort = rule_nodes::wide(row.sort);
-        let count = ranges.count[sort];
-        let a = node_lower(kind, count, least, low);
-        let b = node_upper(kind, count, high);
-        lows[v] = a;
-        highs[v] = b;
+        let count = ranges.count[rule_nodes::wide(row.sort)];
+        lows[v] = node_lower(kind, count, least, low);
+        highs[v] = node_upper(kind, count, high);
     }
-    let lower = lows[0] + 2;
-    let upper = highs[0] + 3;
-    Window { lower, upper }
+    Window {
+        lower: lows[0] + 2,
+        upper: highs[0] + 3,
+    }
 }

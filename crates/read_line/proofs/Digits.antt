@@ -1,7 +1,8 @@
 -- A step line by its first five bytes, its digits and its end.
+use Rattle.std.specs.Prelude.{Some, None}
 use Rattle.std.specs.Prelude.{if◌then◌else◌}
 use Prim.Native.Nat.{ℕ, zero, suc, ◌+◌, ◌≤◌, ◌<◌}
-use mathlib.Core.Path.{◌≡◌, refl, sym, ap, subst, ◌∙◌}
+use mathlib.Core.Path.{◌≡◌, refl, sym, ap, ◌∙◌}
 use mathlib.Core.Bool.{Bool, true, false, ◌&&◌}
 use mathlib.Core.List.{List, [], ◌∷◌, ◌++◌}
 use mathlib.Core.Option.{none, some}
@@ -15,13 +16,9 @@ use Rattle.definitions.specs.Sheet.Text.{split, on_first, is_between, is_digit, 
 use Rattle.definitions.specs.Sheet.Sheets as S
 use Rattle.laws.specs.Booleans.{T_of, and_both}
 use Rattle.laws.specs.Tuples.{same_eq}
-use Rattle.read_text.specs.Spans.{index_of, num_of}
-use Rattle.read_text.specs.declared.Num.{Num}
-use Rattle.read_text.specs.declared.Num.TheVariants.{Is}
+use Rattle.read_text.specs.Spans.{index_of, option_of}
 use Rattle.read_text.proofs.Laws.{span_append, split_last, end_within, index_of_miss}
-use Rattle.read_line.specs.Entries.{made, Says, step_of, entry_in, InText, Reads, StepReads}
-use Rattle.read_line.specs.declared.Quick.{Quick}
-use Rattle.read_line.specs.declared.Quick.TheVariants.{Step as Told, Other}
+use Rattle.read_line.specs.Entries.{made, Says, numbered, entry_in, InText, Reads, StepReads}
 use Rattle.read_line.specs.declared.Entry.TheVariants.{Step}
 use Rattle.read_line.proofs.Fields.{says_step, num_is, reads_line}
 
@@ -43,13 +40,13 @@ no_tab (c ∷ t) p =
     let l = leb-true 48 c (and_both (leb 48 c) (leb c 57) q.0).0 in
     index_of_miss 9 c t (λ z. omega arith) ∙ ap suc (no_tab t q.1)
 
-pub one_number_lem : (t : List ℕ) (k : ℕ) → number t ≡ some k → S.with_one step_of (split 9 t) ≡ some (S.step k)
-unfolding S.with_one step_of option
+pub one_number_lem : (t : List ℕ) (k : ℕ) → number t ≡ some k → S.with_one (numbered S.step) (split 9 t) ≡ some (S.step k)
+unfolding S.with_one numbered option
 one_number_lem t k p = rw (split_last 9 t (no_tab t (digits_only t k p))) (rw p)
 
 -- ---- the line
 
-word_fields : (t : List ℕ) → S.entry (split 9 ((115 ∷ 116 ∷ 101 ∷ 112 ∷ 9 ∷ []) ++ t)) ≡ S.with_one step_of (split 9 t)
+word_fields : (t : List ℕ) → S.entry (split 9 ((115 ∷ 116 ∷ 101 ∷ 112 ∷ 9 ∷ []) ++ t)) ≡ S.with_one (numbered S.step) (split 9 t)
 unfolding split on_first made Says same
 word_fields t = (says_step (115 ∷ 116 ∷ 101 ∷ 112 ∷ []) refl).0 (split 9 t)
 
@@ -68,21 +65,21 @@ module _ (s : List ℕ) (at : ℕ) (h : at + 7 ≤ length s) (r : Bool) (p : r �
   begins : (b : ℕ) → at + 5 ≤ b → slice at b s ≡ (115 ∷ 116 ∷ 101 ∷ 112 ∷ 9 ∷ []) ++ slice (at + 5) b s
   begins b k = span_append at 4 b s k ∙ ap (λ (t : List ℕ). t ++ slice (at + 5) b s) (same_eq _ _ (T_of (sym p ∙ y)))
 
-  pub step_reads : (n : Num) (v : ℕ) → n ≡ num_of (number (slice (at + 5) e s)) → n ≡ Is v → StepReads s at (Told v (e + 1))
+  pub step_reads : (v : ℕ) → Some v ≡ option_of (number (slice (at + 5) e s)) → StepReads s at (Some (v, e + 1))
   unfolding StepReads entry_in
-  step_reads n v m i =
+  step_reads v m =
       let b = end_in in
       let z : e ≡ at + index_of 10 (slice at (length s) s) = q ∙ (let u = ap (index_of 10) (begins (length s) (omega arith)) ∙ word_end (slice (at + 5) (length s) s) in omega arith) in (
         omega arith,
         omega arith,
         reads_line s at (omega arith) e z b.1 (Step v)
-            (sym (ap (λ (t : List ℕ). S.entry (split 9 t)) (begins e b.0) ∙ word_fields (slice (at + 5) e s) ∙ one_number_lem (slice (at + 5) e s) v (num_is _ n v i m))),
+            (sym (ap (λ (t : List ℕ). S.entry (split 9 t)) (begins e b.0) ∙ word_fields (slice (at + 5) e s) ∙ one_number_lem (slice (at + 5) e s) v (num_is _ _ v refl m))),
       )
 
-pub not_step : (s : List ℕ) (at : ℕ) → StepReads s at Other
+pub not_step : (s : List ℕ) (at : ℕ) → StepReads s at None
 unfolding StepReads
 not_step s at = tt
 
-pub step_told : (s : List ℕ) (at : ℕ) (q : Quick) (k next : ℕ) → q ≡ Told k next → StepReads s at q → (at < next) × (next ≤ length s) × Reads s at next (Step k) × InText s at (Step k)
+pub step_told : (s : List ℕ) (at k next : ℕ) → StepReads s at (Some (k, next)) → (at < next) × (next ≤ length s) × Reads s at next (Step k) × InText s at (Step k)
 unfolding StepReads InText
-step_told s at q k next e w = let v = subst (λ (q : Quick). StepReads s at q) e w in (v.0, v.1, v.2, tt)
+step_told s at k next w = (w.0, w.1, w.2, tt)

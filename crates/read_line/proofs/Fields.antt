@@ -1,4 +1,6 @@
 -- Laws of fields and entries.
+use Rattle.std.specs.Prelude.{Some, None}
+use Rattle.std.specs.Prelude as P
 use Rattle.std.specs.Prelude.{if◌then◌else◌}
 use Prim.Native.Nat.{ℕ, zero, suc, ◌+◌, ◌≤◌, ◌<◌}
 use mathlib.Core.Path.{◌≡◌, refl, sym, ap, subst, ◌∙◌}
@@ -7,13 +9,13 @@ use mathlib.Core.List.{List, [], ◌∷◌}
 use mathlib.Core.Option.{Option, none, some}
 use native.Mathlib.Omega.{arith}
 use native.Mathlib.Decide.{dec_lt}
-use lib.Dec.{eqb, leb-suc-suc}
+use lib.Dec.{eqb, leb, leb-suc-suc}
 use lib.ListN.{length}
 use lib.Seq.{slice, length-slice}
-use borrow.Author.Tests.{le-leb, lt-leb, ne_eqb}
+use borrow.Author.Tests.{le-leb, lt-leb, eq-eqb, ne_eqb}
 use Rattle.definitions.specs.Lists.{same, option, is_empty}
 use Rattle.definitions.specs.Sheet.Text.{split, fields, lines_from, is_between, number, is_relation_name}
-use Rattle.definitions.specs.Sheet.Relations.{plain, Fun, PFun, Inj, PInj}
+use Rattle.definitions.specs.Sheet.Relations.{plain}
 use Rattle.definitions.specs.Refusal.{given}
 use Rattle.definitions.specs.Sheet.Sheets as S
 use Rattle.laws.specs.Decimals.{decimal_number}
@@ -21,15 +23,15 @@ use Rattle.laws.specs.Labels.{option_parts}
 use Rattle.laws.specs.Booleans.{T_of}
 use Rattle.laws.specs.Lists.{none_some, some_eq}
 use Rattle.laws.specs.Tuples.{same_eq}
-use Rattle.read_text.specs.Spans.{index_of, num_of, kind_of}
+use Rattle.read_text.specs.Spans.{index_of, option_of, kind_of}
 use Rattle.read_line.specs.Lines.{lines_at}
-use Rattle.read_line.specs.Entries.{OneField, TwoFields, Named, Fielded, code_of, codes_in, codes_of, codes, element_by, elements_by, list_of, consed, up_to, kind_word, rel_of, every_of, type_of, rule_of, size_of, step_of, made, Says, entry_in, Reads}
-use Rattle.read_text.specs.declared.Num.{Num}
-use Rattle.read_text.specs.declared.Num.TheVariants.{Is, Bad}
-use Rattle.read_text.specs.declared.Found.{Found}
-use Rattle.read_text.specs.declared.Found.TheVariants.{At, Nowhere}
+use Rattle.read_line.specs.Entries.{OneField, OneNumber, numbered, TwoFields, arity_to, with_arity, NameAndArity, Named, code_of, codes_in, codes_of, codes, element_by, elements_by, list_of, consed, up_to, kind_number, KindNamed, type_of, rule_of, made, Says, TellsAfter, TellsAt, entry_in, Reads}
+use Rattle.read_line.specs.declared.Word.{Word}
+use Rattle.read_line.specs.declared.Word.TheVariants as W
+use Rattle.read_line.specs.declared.Kind.{Kind}
+use Rattle.read_line.specs.declared.Kind.TheVariants.{Fun, PFun, Inj, PInj}
 use Rattle.read_line.specs.declared.Places.{Places}
-use Rattle.read_line.specs.declared.Places.TheVariants.{Unread, One, Two, Three}
+use Rattle.read_line.specs.declared.Places.TheVariants.{One, Two, Three}
 use Rattle.read_line.specs.declared.Entry.{Entry}
 use Rattle.read_line.specs.declared.Entry.TheVariants.{Wrong}
 use Rattle.read_text.proofs.Laws.{slice_all, slice_done, pieces_at, pieces_whole, end_within, split_some}
@@ -51,170 +53,161 @@ unfolding S.with_two
 two_of_one make f = refl
 
 module _ (a e : ℕ) (s : List ℕ) (h : a ≤ e) (k : e ≤ length s) (t : ℕ) (q : t ≡ a + index_of 9 (slice a e s)) where
-  pub one_yes : e ≤ t → OneField s a e true
+  one_yes : e ≤ t → OneField s a e true
   unfolding OneField
   one_yes l = pieces_whole 9 a e s h k t q l
 
-  pub one_no : t < e → OneField s a e false
+  one_no : t < e → OneField s a e false
   unfolding OneField
   one_no l make = ap (S.with_one make) (pieces_at 9 a e s h k t q l) ∙ not_one make (slice a t s) (split 9 (slice (t + 1) e s)) (split_some 9 (slice (t + 1) e s))
 
-  pub two_none : e ≤ t → TwoFields s a e Nowhere
+  pub one_tab : OneField s a e (eqb t e)
+  one_tab = from_this (dec_lt t e)
+    where
+      from_this : Dec (t < e) → OneField s a e (eqb t e)
+      from_this (yes l) = rw (ne_eqb t e (λ z. omega arith)) (one_no l)
+      from_this (no l) = rw (eq-eqb t e (omega (arith, end_within 9 a e s h k))) (one_yes (omega arith))
+
+  pub two_none : e ≤ t → TwoFields s a e None
   unfolding TwoFields
   two_none l make = ap (S.with_two make) (pieces_whole 9 a e s h k t q l) ∙ two_of_one make (slice a e s)
 
   module _ (l : t < e) (u : ℕ) (r : u ≡ (t + 1) + index_of 9 (slice (t + 1) e s)) where
-    pub two_more : u < e → TwoFields s a e Nowhere
+    pub two_more : u < e → TwoFields s a e None
     unfolding TwoFields
     two_more m make =
         ap (S.with_two make) (pieces_at 9 a e s h k t q l ∙ ap (λ (fs : List (List ℕ)). slice a t s ∷ fs) (pieces_at 9 (t + 1) e s (omega arith) k u r m))
         ∙ not_two make (slice a t s) (slice (t + 1) u s) (split 9 (slice (u + 1) e s)) (split_some 9 (slice (u + 1) e s))
 
-    pub two_yes : e ≤ u → TwoFields s a e (At t)
+    pub two_yes : e ≤ u → TwoFields s a e (Some t)
     unfolding TwoFields
     two_yes m = (omega arith, l, pieces_at 9 a e s h k t q l ∙ ap (λ (fs : List (List ℕ)). slice a t s ∷ fs) (pieces_whole 9 (t + 1) e s (omega arith) k u r m))
 
 -- what TwoFields says
-pub two_bad : (s : List ℕ) (a e : ℕ) (f : Found) (make : List ℕ → List ℕ → Option S.Entry) → f ≡ Nowhere → TwoFields s a e f → S.with_two make (split 9 (slice a e s)) ≡ none
+pub two_bad : (s : List ℕ) (a e : ℕ) → TwoFields s a e None → (make : List ℕ → List ℕ → Option S.Entry) → none ≡ S.with_two make (split 9 (slice a e s))
 unfolding TwoFields
-two_bad s a e Nowhere make p w = w make
-two_bad s a e (At t) make p w = let z : ◌≡◌ {A = ℕ} 0 1 = cc in absurd (omega arith)
+two_bad s a e w make = sym (w make)
 
-at_is : (t u : ℕ) → At t ≡ At u → t ≡ u
-at_is t u p = cc
+module _ (s : List ℕ) (a e t : ℕ) (w : TwoFields s a e (Some t)) where
+  pub two_bounds : (a ≤ t) × (t < e)
+  unfolding TwoFields
+  two_bounds = (w.0, w.1)
 
-pub two_bounds : (s : List ℕ) (a e t : ℕ) (f : Found) → f ≡ At t → TwoFields s a e f → (a ≤ t) × (t < e)
-unfolding TwoFields
-two_bounds s a e t Nowhere p w = let z : ◌≡◌ {A = ℕ} 0 1 = cc in absurd (omega arith)
-two_bounds s a e t (At u) p w = let z = at_is u t p in (omega arith, omega arith)
+  pub two_is : (make : List ℕ → List ℕ → Option S.Entry) → S.with_two make (split 9 (slice a e s)) ≡ make (slice a t s) (slice (t + 1) e s)
+  unfolding TwoFields S.with_two
+  two_is make = ap (S.with_two make) w.2
 
-pub two_is : (s : List ℕ) (a e t : ℕ) (f : Found) (make : List ℕ → List ℕ → Option S.Entry) → f ≡ At t → TwoFields s a e f → S.with_two make (split 9 (slice a e s)) ≡ make (slice a t s) (slice (t + 1) e s)
-unfolding TwoFields S.with_two
-two_is s a e t Nowhere make p w = let z : ◌≡◌ {A = ℕ} 0 1 = cc in absurd (omega arith)
-two_is s a e t (At u) make p w = let z = at_is u t p in rw (← z) (ap (S.with_two make) w.2)
-
-pub one_bad : (s : List ℕ) (a e : ℕ) (b : Bool) (make : List ℕ → Option S.Entry) → b ≡ false → OneField s a e b → S.with_one make (split 9 (slice a e s)) ≡ none
+pub one_bad : (s : List ℕ) (a e : ℕ) (b : Bool) → b ≡ false → OneField s a e b → (make : List ℕ → Option S.Entry) → S.with_one make (split 9 (slice a e s)) ≡ none
 unfolding OneField
-one_bad s a e false make p w = w make
-one_bad s a e true make p w = let z : ◌≡◌ {A = ℕ} 0 1 = cc in absurd (omega arith)
+one_bad s a e false p w make = w make
+one_bad s a e true p w make = let z : ◌≡◌ {A = ℕ} 0 1 = cc in absurd (omega arith)
 
-pub one_is : (s : List ℕ) (a e : ℕ) (b : Bool) (make : List ℕ → Option S.Entry) → b ≡ true → OneField s a e b → S.with_one make (split 9 (slice a e s)) ≡ make (slice a e s)
+pub one_is : (s : List ℕ) (a e : ℕ) (b : Bool) → b ≡ true → OneField s a e b → (make : List ℕ → Option S.Entry) → S.with_one make (split 9 (slice a e s)) ≡ make (slice a e s)
 unfolding OneField S.with_one
-one_is s a e false make p w = let z : ◌≡◌ {A = ℕ} 0 1 = cc in absurd (omega arith)
-one_is s a e true make p w = ap (S.with_one make) w
+one_is s a e false p w make = let z : ◌≡◌ {A = ℕ} 0 1 = cc in absurd (omega arith)
+one_is s a e true p w make = ap (S.with_one make) w
 
 -- ---- numbers
 
-pub num_is : (o : Option ℕ) (n : Num) (k : ℕ) → n ≡ Is k → n ≡ num_of o → o ≡ some k
+pub num_is : (o : Option ℕ) (n : P.Option ℕ) (k : ℕ) → n ≡ Some k → n ≡ option_of o → o ≡ some k
 num_is none n k p q = let z : ◌≡◌ {A = ℕ} 0 1 = cc in absurd (omega arith)
 num_is (some j) n k p q = cc
 
-pub num_bad : (o : Option ℕ) (n : Num) → n ≡ Bad → n ≡ num_of o → o ≡ none
+pub num_bad : (o : Option ℕ) (n : P.Option ℕ) → n ≡ None → n ≡ option_of o → o ≡ none
 num_bad none n p q = refl
 num_bad (some j) n p q = let z : ◌≡◌ {A = ℕ} 0 1 = cc in absurd (omega arith)
 
-module _ (f : List ℕ) where
-  pub arity_bad : number f ≡ none → S.arity_of f ≡ none
-  unfolding S.arity_of option
-  arity_bad p = rw p
+module _ (s : List ℕ) (a e : ℕ) where
+  pub number_none : (b : Bool) → b ≡ false → OneField s a e b → OneNumber s a e None
+  unfolding OneNumber
+  number_none b p w make = one_bad s a e b p w (numbered make)
 
-  pub arity_low : (k : ℕ) → number f ≡ some k → k < 1 → S.arity_of f ≡ none
-  unfolding S.arity_of option is_between
-  arity_low k p l = rw p (simp (lt-leb 1 k l))
+  pub number_one : (b : Bool) → b ≡ true → OneField s a e b → (n : P.Option ℕ) → n ≡ option_of (number (slice a e s)) → OneNumber s a e n
+  unfolding OneNumber numbered option
+  number_one b p w None q = λ make. one_is s a e b p w (numbered make) ∙ rw (num_bad (number (slice a e s)) None refl q)
+  number_one b p w (Some n) q = λ make. one_is s a e b p w (numbered make) ∙ rw (num_is (number (slice a e s)) (Some n) n refl q)
 
-  pub arity_high : (k : ℕ) → number f ≡ some k → 1 ≤ k → 3 < k → S.arity_of f ≡ none
-  unfolding S.arity_of option is_between
-  arity_high k p l m = rw p (simp (le-leb 1 k l, lt-leb k 3 m))
+-- ---- arities
 
-  pub arity_good : (k : ℕ) → number f ≡ some k → 1 ≤ k → k ≤ 3 → S.arity_of f ≡ some k
-  unfolding S.arity_of option is_between
-  arity_good k p l m = rw p (simp (le-leb 1 k l, le-leb k 3 m))
+module _ (m : ℕ) (f : List ℕ) where
+  pub arity_bad : None ≡ option_of (number f) → None ≡ option_of (arity_to m f)
+  unfolding arity_to option
+  arity_bad p = rw (num_bad (number f) None refl p)
 
--- no more than two
-module _ (f : List ℕ) where
-  pub every_bad : S.arity_of f ≡ none → S.every_arity_of f ≡ none
-  unfolding S.every_arity_of option
-  every_bad p = rw p
+  module _ (k : ℕ) (p : Some k ≡ option_of (number f)) where
+    pub arity_low : k < 1 → None ≡ option_of (arity_to m f)
+    unfolding arity_to option is_between
+    arity_low l = rw (num_is (number f) (Some k) k refl p) (simp (lt-leb 1 k l))
 
-  pub every_high : (k : ℕ) → S.arity_of f ≡ some k → 2 < k → S.every_arity_of f ≡ none
-  unfolding S.every_arity_of option
-  every_high k p m = rw p (simp (lt-leb k 2 m))
+    pub arity_high : 1 ≤ k → m < k → None ≡ option_of (arity_to m f)
+    unfolding arity_to option is_between
+    arity_high l h = rw (num_is (number f) (Some k) k refl p) (simp (le-leb 1 k l, lt-leb k m h))
 
-  pub every_fine : (k : ℕ) → S.arity_of f ≡ some k → k ≤ 2 → S.every_arity_of f ≡ some k
-  unfolding S.every_arity_of option
-  every_fine k p m = rw p (simp (le-leb k 2 m))
+    pub arity_good : 1 ≤ k → k ≤ m → Some k ≡ option_of (arity_to m f)
+    unfolding arity_to option is_between
+    arity_good l h = rw (num_is (number f) (Some k) k refl p) (simp (le-leb 1 k l, le-leb k m h))
+
+-- the arities of `rel` and `every`
+pub arity_3 : (f : List ℕ) → S.arity_of f ≡ arity_to 3 f
+unfolding S.arity_of arity_to
+arity_3 f = refl
+
+either_2 : (k : ℕ) (b : Bool) → is_between 1 3 k ≡ b → option (if b then some k else none) none (λ a. if leb a 2 then some a else none) ≡ (if is_between 1 2 k then some k else none)
+unfolding option is_between
+either_2 zero b p = rw (sym p)
+either_2 (suc zero) b p = rw (sym p)
+either_2 (suc (suc zero)) b p = rw (sym p)
+either_2 (suc (suc (suc zero))) b p = rw (sym p)
+either_2 (suc (suc (suc (suc k)))) b p =
+    rw (sym p) (simp (lt-leb (suc (suc (suc (suc k)))) 3 (omega arith), lt-leb (suc (suc (suc (suc k)))) 2 (omega arith), le-leb 1 (suc (suc (suc (suc k)))) (omega arith)))
+
+arity_2 : (f : List ℕ) → S.every_arity_of f ≡ arity_to 2 f
+unfolding S.every_arity_of S.arity_of arity_to option
+arity_2 f = by_number (number f)
+  where
+    by_number : (o : Option ℕ) → option (option o none (λ a. if is_between 1 3 a then some a else none)) none (λ a. if leb a 2 then some a else none) ≡ option o none (λ k. if is_between 1 2 k then some k else none)
+    by_number none = refl
+    by_number (some k) = either_2 k (is_between 1 3 k) refl
+
+module _ (s : List ℕ) (a e m : ℕ) where
+  pub pair_none : TwoFields s a e None → NameAndArity s a e m None
+  unfolding NameAndArity
+  pair_none w make = sym (two_bad s a e w (with_arity m make))
+
+  module _ (t : ℕ) (w : TwoFields s a e (Some t)) where
+    pub pair_bad : None ≡ option_of (arity_to m (slice (t + 1) e s)) → NameAndArity s a e m None
+    unfolding NameAndArity with_arity option
+    pair_bad p make = two_is s a e t w (with_arity m make) ∙ rw (num_bad (arity_to m (slice (t + 1) e s)) None refl p)
+
+    pub pair_good : (k : ℕ) → Some k ≡ option_of (arity_to m (slice (t + 1) e s)) → (1 ≤ k) × (k ≤ m) → NameAndArity s a e m (Some (t, k))
+    unfolding NameAndArity with_arity option
+    pair_good k p l = let b = two_bounds s a e t w in (b.0, b.1, l.0, l.1, λ make. two_is s a e t w (with_arity m make) ∙ rw (num_is (arity_to m (slice (t + 1) e s)) (Some k) k refl p))
 
 -- ---- kinds
 
 module _ (f : List ℕ) where
-  pub kind_2 : same f (70 ∷ 117 ∷ 110 ∷ []) ≡ true → kind_word f ≡ 2
-  unfolding kind_word
-  kind_2 p = rw p
+  pub kind_fun : same f (70 ∷ 117 ∷ 110 ∷ []) ≡ true → KindNamed f (Some Fun)
+  unfolding KindNamed S.kind_named kind_of
+  kind_fun p = rw p
 
   module _ (n2 : same f (70 ∷ 117 ∷ 110 ∷ []) ≡ false) where
-    pub kind_3 : same f (80 ∷ 70 ∷ 117 ∷ 110 ∷ []) ≡ true → kind_word f ≡ 3
-    unfolding kind_word
-    kind_3 p = rw (n2, p)
+    pub kind_pfun : same f (80 ∷ 70 ∷ 117 ∷ 110 ∷ []) ≡ true → KindNamed f (Some PFun)
+    unfolding KindNamed S.kind_named kind_of
+    kind_pfun p = rw (n2, p)
 
     module _ (n3 : same f (80 ∷ 70 ∷ 117 ∷ 110 ∷ []) ≡ false) where
-      pub kind_4 : same f (73 ∷ 110 ∷ 106 ∷ []) ≡ true → kind_word f ≡ 4
-      unfolding kind_word
-      kind_4 p = rw (n2, n3, p)
+      pub kind_inj : same f (73 ∷ 110 ∷ 106 ∷ []) ≡ true → KindNamed f (Some Inj)
+      unfolding KindNamed S.kind_named kind_of
+      kind_inj p = rw (n2, n3, p)
 
       module _ (n4 : same f (73 ∷ 110 ∷ 106 ∷ []) ≡ false) where
-        pub kind_5 : same f (80 ∷ 73 ∷ 110 ∷ 106 ∷ []) ≡ true → kind_word f ≡ 5
-        unfolding kind_word
-        kind_5 p = rw (n2, n3, n4, p)
+        pub kind_pinj : same f (80 ∷ 73 ∷ 110 ∷ 106 ∷ []) ≡ true → KindNamed f (Some PInj)
+        unfolding KindNamed S.kind_named kind_of
+        kind_pinj p = rw (n2, n3, n4, p)
 
-        pub kind_0 : same f (80 ∷ 73 ∷ 110 ∷ 106 ∷ []) ≡ false → kind_word f ≡ 0
-        unfolding kind_word
-        kind_0 p = rw (n2, n3, n4, p)
-
-named_tests : (f : List ℕ) → S.kind_named f ≡
-    (if same f (70 ∷ 117 ∷ 110 ∷ []) then some Fun
-    else if same f (80 ∷ 70 ∷ 117 ∷ 110 ∷ []) then some PFun
-    else if same f (73 ∷ 110 ∷ 106 ∷ []) then some Inj
-    else if same f (80 ∷ 73 ∷ 110 ∷ 106 ∷ []) then some PInj
-    else none)
-unfolding S.kind_named
-named_tests f = refl
-
-kind_tests : (f : List ℕ) → kind_word f ≡
-    (if same f (70 ∷ 117 ∷ 110 ∷ []) then 2
-    else if same f (80 ∷ 70 ∷ 117 ∷ 110 ∷ []) then 3
-    else if same f (73 ∷ 110 ∷ 106 ∷ []) then 4
-    else if same f (80 ∷ 73 ∷ 110 ∷ 106 ∷ []) then 5
-    else 0)
-unfolding kind_word
-kind_tests f = refl
-
-none_named : (a b c d : Bool) → ◌≡◌ {A = ℕ} (if a then 2 else if b then 3 else if c then 4 else if d then 5 else 0) 0
-    → (if a then some Fun else if b then some PFun else if c then some Inj else if d then some PInj else none) ≡ none
-none_named true b c d p = absurd (omega arith)
-none_named false true c d p = absurd (omega arith)
-none_named false false true d p = absurd (omega arith)
-none_named false false false true p = absurd (omega arith)
-none_named false false false false p = refl
-
-one_named : (a b c d : Bool) → (◌≡◌ {A = ℕ} (if a then 2 else if b then 3 else if c then 4 else if d then 5 else 0) 0 → ⊥)
-    → (if a then some Fun else if b then some PFun else if c then some Inj else if d then some PInj else none)
-    ≡ some (kind_of (if a then 2 else if b then 3 else if c then 4 else if d then 5 else 0))
-unfolding kind_of
-one_named true b c d p = refl
-one_named false true c d p = refl
-one_named false false true d p = refl
-one_named false false false true p = refl
-one_named false false false false p = absurd (p refl)
-
-module _ (f : List ℕ) where
-  no_kind : kind_word f ≡ 0 → S.kind_named f ≡ none
-  no_kind p = named_tests f ∙ none_named (same f (70 ∷ 117 ∷ 110 ∷ [])) (same f (80 ∷ 70 ∷ 117 ∷ 110 ∷ [])) (same f (73 ∷ 110 ∷ 106 ∷ [])) (same f (80 ∷ 73 ∷ 110 ∷ 106 ∷ [])) (sym (kind_tests f) ∙ p)
-
-  a_kind : (kind_word f ≡ 0 → ⊥) → S.kind_named f ≡ some (kind_of (kind_word f))
-  a_kind p =
-      named_tests f
-      ∙ one_named (same f (70 ∷ 117 ∷ 110 ∷ [])) (same f (80 ∷ 70 ∷ 117 ∷ 110 ∷ [])) (same f (73 ∷ 110 ∷ 106 ∷ [])) (same f (80 ∷ 73 ∷ 110 ∷ 106 ∷ [])) (λ z. p (kind_tests f ∙ z))
-      ∙ ap (λ (k : ℕ). some (kind_of k)) (sym (kind_tests f))
+        pub kind_none : same f (80 ∷ 73 ∷ 110 ∷ 106 ∷ []) ≡ false → KindNamed f None
+        unfolding KindNamed S.kind_named
+        kind_none p = rw (n2, n3, n4, p)
 
 -- ---- what a `choose` line has: by the number of its fields, and by its kind
 
@@ -223,13 +216,13 @@ unfolding S.choose_of
 choose_of_one name = refl
 
 module _ (name f : List ℕ) where
-  pub choose_by_arity : kind_word f ≡ 0 → S.choose_of (name ∷ f ∷ []) ≡ option (S.arity_of f) none (λ a. some (S.choose name a plain []))
-  unfolding S.choose_of option
-  choose_by_arity p = rw (no_kind f p)
+  pub choose_by_arity : KindNamed f None → S.choose_of (name ∷ f ∷ []) ≡ option (arity_to 3 f) none (λ a. some (S.choose name a plain []))
+  unfolding S.choose_of option KindNamed
+  choose_by_arity p = rw (p, arity_3 f)
 
-  pub choose_by_kind : (kind_word f ≡ 0 → ⊥) → S.choose_of (name ∷ f ∷ []) ≡ some (S.choose name 2 (kind_of (kind_word f)) [])
-  unfolding S.choose_of option
-  choose_by_kind p = rw (a_kind f p)
+  pub choose_by_kind : (k : Kind) → KindNamed f (Some k) → S.choose_of (name ∷ f ∷ []) ≡ some (S.choose name 2 (kind_of (kind_number k)) [])
+  unfolding S.choose_of option KindNamed
+  choose_by_kind k p = rw p
 
   with_types : (fs : List (List ℕ)) → 0 < length fs → S.choose_of (name ∷ f ∷ fs) ≡ S.with_two (λ t u. option (S.kind_named f) none (λ kind. some (S.choose name 2 kind (t ∷ u ∷ [])))) fs
   unfolding S.choose_of S.with_two
@@ -246,70 +239,79 @@ module _ (name f : List ℕ) where
   none_with_types (t ∷ u ∷ []) = refl
   none_with_types (t ∷ u ∷ v ∷ fs) = refl
 
-  pub typed_no_kind : (fs : List (List ℕ)) → 0 < length fs → kind_word f ≡ 0 → S.choose_of (name ∷ f ∷ fs) ≡ none
-  unfolding option
-  typed_no_kind fs h p = with_types fs h ∙ rw (no_kind f p) (none_with_types fs)
+  module _ (fs : List (List ℕ)) (h : 0 < length fs) where
+    pub typed_no_kind : KindNamed f None → S.choose_of (name ∷ f ∷ fs) ≡ none
+    unfolding option KindNamed
+    typed_no_kind p = with_types fs h ∙ rw p (none_with_types fs)
 
-  pub typed_by_kind : (fs : List (List ℕ)) → 0 < length fs → (kind_word f ≡ 0 → ⊥) → S.choose_of (name ∷ f ∷ fs) ≡ S.with_two (λ t u. some (S.choose name 2 (kind_of (kind_word f)) (t ∷ u ∷ []))) fs
-  unfolding option
-  typed_by_kind fs h p = with_types fs h ∙ rw (a_kind f p)
+    pub typed_by_kind : (k : Kind) → KindNamed f (Some k) → S.choose_of (name ∷ f ∷ fs) ≡ S.with_two (λ t u. some (S.choose name 2 (kind_of (kind_number k)) (t ∷ u ∷ []))) fs
+    unfolding option KindNamed
+    typed_by_kind k p = with_types fs h ∙ rw p
 
 -- ---- record words
 
-says_as : (w v : List ℕ) (k : ℕ) → same w v ≡ true → Says v k → Says w k
+with_same : (f g : List ℕ → List ℕ → Option S.Entry) → ((x y : List ℕ) → f x y ≡ g x y) → (fs : List (List ℕ)) → S.with_two f fs ≡ S.with_two g fs
+unfolding S.with_two
+with_same f g h [] = refl
+with_same f g h (x ∷ []) = refl
+with_same f g h (x ∷ y ∷ []) = h x y
+with_same f g h (x ∷ y ∷ z ∷ fs) = refl
+
+every_made : (fs : List (List ℕ)) → S.with_two (λ name a. option (S.every_arity_of a) none (λ k. some (S.every name k))) fs ≡ S.with_two (with_arity 2 S.every) fs
+unfolding with_arity
+every_made fs = with_same (λ name a. option (S.every_arity_of a) none (λ k. some (S.every name k))) (with_arity 2 S.every) (λ name a. rw (arity_2 a)) fs
+
+says_as : (w v : List ℕ) (k : P.Option Word) → same w v ≡ true → Says v k → Says w k
 says_as w v k e h = subst (λ (u : List ℕ). Says u k) (sym (same_eq w v (T_of e))) h
 
 module _ (w : List ℕ) where
-  pub says_rel : same w (114 ∷ 101 ∷ 108 ∷ []) ≡ true → Says w 1
-  unfolding Says made S.entry same rel_of type_of rule_of size_of step_of
-  says_rel e = says_as w (114 ∷ 101 ∷ 108 ∷ []) 1 e (λ fs. refl, λ p. absurd (omega arith))
+  pub says_rel : same w (114 ∷ 101 ∷ 108 ∷ []) ≡ true → Says w (Some W.Rel)
+  unfolding Says made S.entry same S.arity_of arity_to with_arity numbered type_of rule_of
+  says_rel e = says_as w (114 ∷ 101 ∷ 108 ∷ []) (Some W.Rel) e (λ fs. refl, λ p. cc)
 
-  pub says_type : same w (116 ∷ 121 ∷ 112 ∷ 101 ∷ []) ≡ true → Says w 2
-  unfolding Says made S.entry same rel_of type_of rule_of size_of step_of
-  says_type e = says_as w (116 ∷ 121 ∷ 112 ∷ 101 ∷ []) 2 e (λ fs. refl, λ p. absurd (omega arith))
+  pub says_type : same w (116 ∷ 121 ∷ 112 ∷ 101 ∷ []) ≡ true → Says w (Some W.Typed)
+  unfolding Says made S.entry same S.arity_of arity_to with_arity numbered type_of rule_of
+  says_type e = says_as w (116 ∷ 121 ∷ 112 ∷ 101 ∷ []) (Some W.Typed) e (λ fs. refl, λ p. cc)
 
-  pub says_choose : same w (99 ∷ 104 ∷ 111 ∷ 111 ∷ 115 ∷ 101 ∷ []) ≡ true → Says w 3
-  unfolding Says made S.entry same rel_of type_of rule_of size_of step_of
-  says_choose e = says_as w (99 ∷ 104 ∷ 111 ∷ 111 ∷ 115 ∷ 101 ∷ []) 3 e (λ fs. refl, λ p. absurd (omega arith))
+  pub says_choose : same w (99 ∷ 104 ∷ 111 ∷ 111 ∷ 115 ∷ 101 ∷ []) ≡ true → Says w (Some W.Choose)
+  unfolding Says made S.entry same S.arity_of arity_to with_arity numbered type_of rule_of
+  says_choose e = says_as w (99 ∷ 104 ∷ 111 ∷ 111 ∷ 115 ∷ 101 ∷ []) (Some W.Choose) e (λ fs. refl, λ p. cc)
 
-  pub says_rule : same w (114 ∷ 117 ∷ 108 ∷ 101 ∷ []) ≡ true → Says w 4
-  unfolding Says made S.entry same rel_of type_of rule_of size_of step_of
-  says_rule e = says_as w (114 ∷ 117 ∷ 108 ∷ 101 ∷ []) 4 e (λ fs. refl, λ p. refl)
+  pub says_rule : same w (114 ∷ 117 ∷ 108 ∷ 101 ∷ []) ≡ true → Says w (Some W.Rule)
+  unfolding Says made S.entry same S.arity_of arity_to with_arity numbered type_of rule_of
+  says_rule e = says_as w (114 ∷ 117 ∷ 108 ∷ 101 ∷ []) (Some W.Rule) e (λ fs. refl, λ p. refl)
 
-  pub says_every : same w (101 ∷ 118 ∷ 101 ∷ 114 ∷ 121 ∷ []) ≡ true → Says w 5
-  unfolding Says made S.entry same rel_of every_of type_of rule_of size_of step_of
-  says_every e = says_as w (101 ∷ 118 ∷ 101 ∷ 114 ∷ 121 ∷ []) 5 e (λ fs. refl, λ p. absurd (omega arith))
+  pub says_every : same w (101 ∷ 118 ∷ 101 ∷ 114 ∷ 121 ∷ []) ≡ true → Says w (Some W.Every)
+  unfolding Says made S.entry same S.arity_of arity_to with_arity numbered type_of rule_of
+  says_every e = says_as w (101 ∷ 118 ∷ 101 ∷ 114 ∷ 121 ∷ []) (Some W.Every) e (λ fs. every_made fs, λ p. cc)
 
-  pub says_size : same w (115 ∷ 105 ∷ 122 ∷ 101 ∷ []) ≡ true → Says w 6
-  unfolding Says made S.entry same rel_of type_of rule_of size_of step_of
-  says_size e = says_as w (115 ∷ 105 ∷ 122 ∷ 101 ∷ []) 6 e (λ fs. refl, λ p. absurd (omega arith))
+  pub says_size : same w (115 ∷ 105 ∷ 122 ∷ 101 ∷ []) ≡ true → Says w (Some W.Size)
+  unfolding Says made S.entry same S.arity_of arity_to with_arity numbered type_of rule_of
+  says_size e = says_as w (115 ∷ 105 ∷ 122 ∷ 101 ∷ []) (Some W.Size) e (λ fs. refl, λ p. cc)
 
-  pub says_label : same w (108 ∷ 97 ∷ 98 ∷ 101 ∷ 108 ∷ []) ≡ true → Says w 7
-  unfolding Says made S.entry same rel_of type_of rule_of size_of step_of
-  says_label e = says_as w (108 ∷ 97 ∷ 98 ∷ 101 ∷ 108 ∷ []) 7 e (λ fs. refl, λ p. absurd (omega arith))
+  pub says_label : same w (108 ∷ 97 ∷ 98 ∷ 101 ∷ 108 ∷ []) ≡ true → Says w (Some W.Label)
+  unfolding Says made S.entry same S.arity_of arity_to with_arity numbered type_of rule_of
+  says_label e = says_as w (108 ∷ 97 ∷ 98 ∷ 101 ∷ 108 ∷ []) (Some W.Label) e (λ fs. refl, λ p. cc)
 
-  pub says_member : same w (109 ∷ 101 ∷ 109 ∷ 98 ∷ 101 ∷ 114 ∷ []) ≡ true → Says w 8
-  unfolding Says made S.entry same rel_of type_of rule_of size_of step_of
-  says_member e = says_as w (109 ∷ 101 ∷ 109 ∷ 98 ∷ 101 ∷ 114 ∷ []) 8 e (λ fs. refl, λ p. absurd (omega arith))
+  pub says_member : same w (109 ∷ 101 ∷ 109 ∷ 98 ∷ 101 ∷ 114 ∷ []) ≡ true → Says w (Some W.Member)
+  unfolding Says made S.entry same S.arity_of arity_to with_arity numbered type_of rule_of
+  says_member e = says_as w (109 ∷ 101 ∷ 109 ∷ 98 ∷ 101 ∷ 114 ∷ []) (Some W.Member) e (λ fs. refl, λ p. cc)
 
-  pub says_fact : same w (102 ∷ 97 ∷ 99 ∷ 116 ∷ []) ≡ true → Says w 9
-  unfolding Says made S.entry same rel_of type_of rule_of size_of step_of
-  says_fact e = says_as w (102 ∷ 97 ∷ 99 ∷ 116 ∷ []) 9 e (λ fs. refl, λ p. absurd (omega arith))
+  pub says_fact : same w (102 ∷ 97 ∷ 99 ∷ 116 ∷ []) ≡ true → Says w (Some W.Fact)
+  unfolding Says made S.entry same S.arity_of arity_to with_arity numbered type_of rule_of
+  says_fact e = says_as w (102 ∷ 97 ∷ 99 ∷ 116 ∷ []) (Some W.Fact) e (λ fs. refl, λ p. cc)
 
-  pub says_pick : same w (112 ∷ 105 ∷ 99 ∷ 107 ∷ []) ≡ true → Says w 10
-  unfolding Says made S.entry same rel_of type_of rule_of size_of step_of
-  says_pick e = says_as w (112 ∷ 105 ∷ 99 ∷ 107 ∷ []) 10 e (λ fs. refl, λ p. absurd (omega arith))
+  pub says_pick : same w (112 ∷ 105 ∷ 99 ∷ 107 ∷ []) ≡ true → Says w (Some W.Pick)
+  unfolding Says made S.entry same S.arity_of arity_to with_arity numbered type_of rule_of
+  says_pick e = says_as w (112 ∷ 105 ∷ 99 ∷ 107 ∷ []) (Some W.Pick) e (λ fs. refl, λ p. cc)
 
-  pub says_step : same w (115 ∷ 116 ∷ 101 ∷ 112 ∷ []) ≡ true → Says w 11
-  unfolding Says made S.entry same rel_of type_of rule_of size_of step_of
-  says_step e = says_as w (115 ∷ 116 ∷ 101 ∷ 112 ∷ []) 11 e (λ fs. refl, λ p. absurd (omega arith))
+  pub says_step : same w (115 ∷ 116 ∷ 101 ∷ 112 ∷ []) ≡ true → Says w (Some W.Step)
+  unfolding Says made S.entry same S.arity_of arity_to with_arity numbered type_of rule_of
+  says_step e = says_as w (115 ∷ 116 ∷ 101 ∷ 112 ∷ []) (Some W.Step) e (λ fs. refl, λ p. cc)
 
-  pub says_none : same w (102 ∷ 97 ∷ 99 ∷ 116 ∷ []) ≡ false → same w (112 ∷ 105 ∷ 99 ∷ 107 ∷ []) ≡ false → same w (114 ∷ 101 ∷ 108 ∷ []) ≡ false
-      → same w (116 ∷ 121 ∷ 112 ∷ 101 ∷ []) ≡ false → same w (99 ∷ 104 ∷ 111 ∷ 111 ∷ 115 ∷ 101 ∷ []) ≡ false → same w (114 ∷ 117 ∷ 108 ∷ 101 ∷ [])
-      ≡ false → same w (101 ∷ 118 ∷ 101 ∷ 114 ∷ 121 ∷ []) ≡ false → same w (115 ∷ 105 ∷ 122 ∷ 101 ∷ []) ≡ false → same w (108 ∷ 97 ∷ 98 ∷ 101 ∷ 108 ∷ []) ≡ false
-      → same w (109 ∷ 101 ∷ 109 ∷ 98 ∷ 101 ∷ 114 ∷ []) ≡ false → same w (115 ∷ 116 ∷ 101 ∷ 112 ∷ []) ≡ false → Says w 0
-  unfolding Says made S.entry
-  says_none n-fact n-pick n-rel n-type n-choose n-rule n-every n-size n-label n-member n-step = (λ fs. rw (n-rel, n-type, n-choose, n-every, n-rule, n-size, n-label, n-member, n-fact, n-pick, n-step), λ p. absurd (omega arith))
+  pub says_none : same w (102 ∷ 97 ∷ 99 ∷ 116 ∷ []) ≡ false → same w (112 ∷ 105 ∷ 99 ∷ 107 ∷ []) ≡ false → same w (114 ∷ 101 ∷ 108 ∷ []) ≡ false → same w (116 ∷ 121 ∷ 112 ∷ 101 ∷ []) ≡ false → same w (99 ∷ 104 ∷ 111 ∷ 111 ∷ 115 ∷ 101 ∷ []) ≡ false → same w (114 ∷ 117 ∷ 108 ∷ 101 ∷ []) ≡ false → same w (101 ∷ 118 ∷ 101 ∷ 114 ∷ 121 ∷ []) ≡ false → same w (115 ∷ 105 ∷ 122 ∷ 101 ∷ []) ≡ false → same w (108 ∷ 97 ∷ 98 ∷ 101 ∷ 108 ∷ []) ≡ false → same w (109 ∷ 101 ∷ 109 ∷ 98 ∷ 101 ∷ 114 ∷ []) ≡ false → same w (115 ∷ 116 ∷ 101 ∷ 112 ∷ []) ≡ false → Says w None
+  unfolding Says S.entry
+  says_none n-fact n-pick n-rel n-type n-choose n-rule n-every n-size n-label n-member n-step fs = rw (n-rel, n-type, n-choose, n-every, n-rule, n-size, n-label, n-member, n-fact, n-pick, n-step)
 
 -- a record word alone says nothing
 none_either : (b : Bool) (x y : Option S.Entry) → x ≡ none → y ≡ none → (if b then x else y) ≡ none
@@ -331,53 +333,39 @@ alone w =
     (none_either (same w (112 ∷ 105 ∷ 99 ∷ 107 ∷ [])) none _ refl (none_either (same w (115 ∷ 116 ∷ 101 ∷ 112 ∷ [])) none _ refl refl))))))))))
 
 module _ (s : List ℕ) (a e : ℕ) (h : a ≤ e) (k : e ≤ length s) (t : ℕ) (q : t ≡ a + index_of 9 (slice a e s)) where
-  pub record_alone : t ≡ e → entry_in s Wrong ≡ S.entry (split 9 (slice a e s))
-  unfolding entry_in
+  pub record_alone : t ≡ e → TellsAt s a (S.entry (split 9 (slice a e s))) None
+  unfolding TellsAt
   record_alone l = sym (ap S.entry (pieces_whole 9 a e s h k t q (omega arith)) ∙ alone (slice a e s))
 
-  pub record_by : t < e → (j : ℕ) → Says (slice a t s) j → made j (split 9 (slice (t + 1) e s)) ≡ S.entry (split 9 (slice a e s))
-  unfolding Says
-  record_by l j w = sym (ap S.entry (pieces_at 9 a e s h k t q l) ∙ w.0 (split 9 (slice (t + 1) e s)))
+  module _ (l : t < e) where
+    pub record_other : Says (slice a t s) None → TellsAt s a (S.entry (split 9 (slice a e s))) None
+    unfolding Says TellsAt
+    record_other w = sym (ap S.entry (pieces_at 9 a e s h k t q l) ∙ w (split 9 (slice (t + 1) e s)))
 
-  -- the field after `rule` begins 5 bytes after the line
-  pub rule_place : t < e → (j : ℕ) → Says (slice a t s) j → j ≡ 4 → t + 1 ≡ a + 5
-  unfolding Says
-  rule_place l j w p = omega (arith, w.1 p, length-slice a t s (omega arith))
-
-pub made_at : (j k : ℕ) (fs : List (List ℕ)) → j ≡ k → made k fs ≡ made j fs
-made_at j k fs e = ap (λ (i : ℕ). made i fs) (sym e)
-
--- what no number stands for
-pub made_past : (j : ℕ) (fs : List (List ℕ)) → 11 < j → made j fs ≡ none
-unfolding made
-made_past zero fs h = absurd (omega arith)
-made_past (suc zero) fs h = absurd (omega arith)
-made_past (suc (suc zero)) fs h = absurd (omega arith)
-made_past (suc (suc (suc zero))) fs h = absurd (omega arith)
-made_past (suc (suc (suc (suc zero)))) fs h = absurd (omega arith)
-made_past (suc (suc (suc (suc (suc zero))))) fs h = absurd (omega arith)
-made_past (suc (suc (suc (suc (suc (suc zero)))))) fs h = absurd (omega arith)
-made_past (suc (suc (suc (suc (suc (suc (suc zero))))))) fs h = absurd (omega arith)
-made_past (suc (suc (suc (suc (suc (suc (suc (suc zero)))))))) fs h = absurd (omega arith)
-made_past (suc (suc (suc (suc (suc (suc (suc (suc (suc zero))))))))) fs h = absurd (omega arith)
-made_past (suc (suc (suc (suc (suc (suc (suc (suc (suc (suc zero)))))))))) fs h = absurd (omega arith)
-made_past (suc (suc (suc (suc (suc (suc (suc (suc (suc (suc (suc zero))))))))))) fs h = absurd (omega arith)
-made_past (suc (suc (suc (suc (suc (suc (suc (suc (suc (suc (suc (suc j)))))))))))) fs h = refl
+    -- the field after `rule` begins 5 bytes after the line
+    pub record_by : (j : Word) → Says (slice a t s) (Some j) → (x : P.Option Entry) → TellsAfter s j (t + 1) (made j (split 9 (slice (t + 1) e s))) x → TellsAt s a (S.entry (split 9 (slice a e s))) x
+    unfolding Says TellsAt TellsAfter
+    record_by j w None y = y ∙ sym (ap S.entry (pieces_at 9 a e s h k t q l) ∙ w.0 (split 9 (slice (t + 1) e s)))
+    record_by j w (Some x) y = (
+      y.0 ∙ sym (ap S.entry (pieces_at 9 a e s h k t q l) ∙ w.0 (split 9 (slice (t + 1) e s))),
+      y.1 a (λ p. omega (arith, w.1 p, length-slice a t s (omega arith))),
+    )
 
 -- ---- element fields
 
 module _ (f : List ℕ) where
-  pub code_number : (n : Num) (k : ℕ) → n ≡ Is k → n ≡ num_of (number f) → Is k ≡ num_of (code_of f)
+  pub code_number : (k : ℕ) → Some k ≡ option_of (number f) → Some k ≡ option_of (code_of f)
   unfolding code_of option
-  code_number n k p q = rw (num_is (number f) n k p q)
+  code_number k q = rw (num_is (number f) (Some k) k refl q)
 
-  pub code_name : (n : Num) → n ≡ Bad → n ≡ num_of (number f) → is_relation_name f ≡ true → Is 10000000 ≡ num_of (code_of f)
-  unfolding code_of option
-  code_name n p q r = rw (num_bad (number f) n p q, r)
+  module _ (q : None ≡ option_of (number f)) where
+    pub code_name : is_relation_name f ≡ true → Some 10000000 ≡ option_of (code_of f)
+    unfolding code_of option
+    code_name r = rw (num_bad (number f) None refl q, r)
 
-  pub code_none : (n : Num) → n ≡ Bad → n ≡ num_of (number f) → is_relation_name f ≡ false → Bad ≡ num_of (code_of f)
-  unfolding code_of option
-  code_none n p q r = rw (num_bad (number f) n p q, r)
+    pub code_none : is_relation_name f ≡ false → None ≡ option_of (code_of f)
+    unfolding code_of option
+    code_none r = rw (num_bad (number f) None refl q, r)
 
   -- the number tells the element
   pub element_by_lem : S.element f ≡ option (code_of f) none (λ k. some (element_by f k))
@@ -483,32 +471,32 @@ module _ (s : List ℕ) (a e : ℕ) (h : a ≤ e) (k : e ≤ length s) (t : ℕ)
 
   -- the three readers of elements
   module _ (x y : ℕ) where
-    pub last_bad : code_of (slice a t s) ≡ none → codes Unread ≡ consed x (consed y (up_to 1 (split 9 (slice a e s))))
+    pub last_bad : code_of (slice a t s) ≡ none → codes None ≡ consed x (consed y (up_to 1 (split 9 (slice a e s))))
     unfolding codes
     last_bad p = rw (places_bad 1 p, consed_none y, consed_none x)
 
-    pub last_over : t < e → codes Unread ≡ consed x (consed y (up_to 1 (split 9 (slice a e s))))
+    pub last_over : t < e → codes None ≡ consed x (consed y (up_to 1 (split 9 (slice a e s))))
     unfolding codes
     last_over l = rw (places_over l, consed_none y, consed_none x)
 
-    pub last_good : (z : ℕ) → code_of (slice a t s) ≡ some z → e ≤ t → codes (Three x y z) ≡ consed x (consed y (up_to 1 (split 9 (slice a e s))))
-    unfolding codes
+    pub last_good : (z : ℕ) → code_of (slice a t s) ≡ some z → e ≤ t → codes (Some (Three x y z)) ≡ consed x (consed y (up_to 1 (split 9 (slice a e s))))
+    unfolding codes codes_of
     last_good z p l = rw (places_last 0 z p l, consed_some y (z ∷ []), consed_some x (y ∷ z ∷ []))
 
-    pub more_good : code_of (slice a t s) ≡ some y → e ≤ t → codes (Two x y) ≡ consed x (up_to 2 (split 9 (slice a e s)))
-    unfolding codes
+    pub more_good : code_of (slice a t s) ≡ some y → e ≤ t → codes (Some (Two x y)) ≡ consed x (up_to 2 (split 9 (slice a e s)))
+    unfolding codes codes_of
     more_good p l = rw (places_last 1 y p l, consed_some x (y ∷ []))
 
-  pub more_bad : (x : ℕ) → code_of (slice a t s) ≡ none → codes Unread ≡ consed x (up_to 2 (split 9 (slice a e s)))
+  pub more_bad : (x : ℕ) → code_of (slice a t s) ≡ none → codes None ≡ consed x (up_to 2 (split 9 (slice a e s)))
   unfolding codes
   more_bad x p = rw (places_bad 2 p, consed_none x)
 
-  pub first_bad : code_of (slice a t s) ≡ none → codes Unread ≡ up_to 3 (split 9 (slice a e s))
+  pub first_bad : code_of (slice a t s) ≡ none → codes None ≡ up_to 3 (split 9 (slice a e s))
   unfolding codes
   first_bad p = rw (places_bad 3 p)
 
-  pub first_good : (x : ℕ) → code_of (slice a t s) ≡ some x → e ≤ t → codes (One x) ≡ up_to 3 (split 9 (slice a e s))
-  unfolding codes
+  pub first_good : (x : ℕ) → code_of (slice a t s) ≡ some x → e ≤ t → codes (Some (One x)) ≡ up_to 3 (split 9 (slice a e s))
+  unfolding codes codes_of
   first_good x p l = rw (places_last 2 x p l)
 
 -- ---- a name and elements
@@ -527,41 +515,25 @@ module _ (make : List ℕ → List S.Element → S.Entry) where
       by_test true (some ks) = refl
       by_test false o = refl
 
-codes_some : (p : Places) → (p ≡ Unread → ⊥) → codes p ≡ some (codes_of p)
-unfolding codes codes_of
-codes_some Unread h = absurd (h refl)
-codes_some (One x) h = refl
-codes_some (Two x y) h = refl
-codes_some (Three x y z) h = refl
-
--- what the numbers make is what the answer's own make
-by_codes : (p : Places) (make : List ℕ → Option S.Entry) → option (codes p) none make ≡ option (codes p) none (λ ks. make (codes_of p))
-unfolding codes codes_of option
-by_codes Unread make = refl
-by_codes (One x) make = refl
-by_codes (Two x y) make = refl
-by_codes (Three x y z) make = refl
-
 module _ (s : List ℕ) (a e : ℕ) (h : a ≤ e) (k : e ≤ length s) (t : ℕ) (q : t ≡ a + index_of 9 (slice a e s)) where
-  pub named_none : e ≤ t → Named s a e e Unread
-  unfolding Named codes option
-  named_none l = (λ make. ap (S.with_elements make) (pieces_whole 9 a e s h k t q l) ∙ with_none make (slice a e s), λ n. absurd (n refl))
-
-  pub named_some : t < e → (p : Places) → codes p ≡ up_to 3 (split 9 (slice (t + 1) e s)) → Named s a e t p
-  unfolding Named list_of
-  named_some l p r = (
-    λ make. ap (S.with_elements make) (pieces_at 9 a e s h k t q l) ∙ with_some make (slice a t s) (split 9 (slice (t + 1) e s)) ∙ rw (← r) (by_codes p (λ ks. some (make (slice a t s) (elements_by (split 9 (slice (t + 1) e s)) ks)))),
-    λ n. record { starts = omega arith; ends = k; count = up_to_count 3 (split 9 (slice (t + 1) e s)) (codes_of p) (sym r ∙ codes_some p n) },
-  )
-
-module _ (s : List ℕ) (a e t : ℕ) (p p' : Places) (r : p ≡ p') (w : Named s a e t p) where
-  pub named_made : (make : List ℕ → List S.Element → S.Entry) → option (codes p') none (λ ks. some (make (slice a t s) (list_of s (t + 1) e p'))) ≡ S.with_elements make (split 9 (slice a e s))
+  pub named_none : e ≤ t → Named s a e None
   unfolding Named
-  named_made make = rw (sym r) (sym (w.0 make))
+  named_none l make = ap (S.with_elements make) (pieces_whole 9 a e s h k t q l) ∙ with_none make (slice a e s)
 
-  pub named_fields : (p' ≡ Unread → ⊥) → Fielded s (t + 1) e p'
-  unfolding Named
-  named_fields n = subst (Fielded s (t + 1) e) r (w.1 (λ z. n (sym r ∙ z)))
+  module _ (l : t < e) where
+    named_as : (o : Option (List ℕ)) (make : List ℕ → List S.Element → S.Entry) → o ≡ up_to 3 (split 9 (slice (t + 1) e s)) → S.with_elements make (split 9 (slice a e s)) ≡ option o none (λ ks. some (make (slice a t s) (elements_by (split 9 (slice (t + 1) e s)) ks)))
+    named_as o make r = ap (S.with_elements make) (pieces_at 9 a e s h k t q l) ∙ with_some make (slice a t s) (split 9 (slice (t + 1) e s)) ∙ rw (sym r)
+
+    pub named_bad : codes None ≡ up_to 3 (split 9 (slice (t + 1) e s)) → Named s a e None
+    unfolding Named codes option
+    named_bad r make = named_as none make r
+
+    pub named_some : (p : Places) → codes (Some p) ≡ up_to 3 (split 9 (slice (t + 1) e s)) → Named s a e (Some (t, p))
+    unfolding Named list_of codes option
+    named_some p r = (
+      record { starts = omega arith; ends = k; count = up_to_count 3 (split 9 (slice (t + 1) e s)) (codes_of p) (sym r) },
+      λ make. named_as (some (codes_of p)) make r,
+    )
 
 -- ---- lines
 

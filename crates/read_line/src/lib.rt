@@ -1,14 +1,12 @@
 // What a line of any sheet says: its record word and the fields after it (document 01, "The sheets").
 #![tactic(auto)]
 
-ghost use Rattle.std.specs.Prelude.{◌≡◌, [], ◌∷◌, ℕ, ◌+◌, ◌≤◌, ◌<◌, length};
+ghost use Rattle.std.specs.Prelude.{◌≡◌, [], ◌∷◌, ℕ, ◌+◌, ◌≤◌, ◌<◌, IfSome, length};
 ghost use Rattle.std.proofs.Math.Seq.{slice};
 ghost use Rattle.definitions.specs.Sheet.Text.{split};
-ghost use Rattle.definitions.specs.Sheet.Sheets.{arity_of, every_arity_of, choose_of, label_of, member_of, with_one, with_two, with_elements, fact as fact_of, pick as pick_of, entry as entry_of};
-ghost use Rattle.read_text.specs.Spans.{num_of};
-ghost use Rattle.read_line.specs.Entries.{OneField, TwoFields, Named, code_of, codes, consed, up_to, kind_word, rel_of, every_of, type_of, rule_of, size_of, step_of, made, Says, entry_in, InText, IsArity, Reads, StepReads};
-
-use read_text::{Found, Num};
+ghost use Rattle.definitions.specs.Sheet.Sheets.{choose_of, label_of, member_of, with_two, entry as entry_of};
+ghost use Rattle.read_text.specs.Spans.{option_of};
+ghost use Rattle.read_line.specs.Entries.{OneField, OneNumber, TwoFields, NameAndArity, Named, arity_to, code_of, codes, consed, up_to, KindNamed, made, Says, Tells, TellsAfter, TellsAt, InText, Reads, StepReads};
 
 // An element field that is a name has this number: no number has eight digits.
 pub const NAMED: u32 = 10000000;
@@ -16,7 +14,6 @@ pub const NAMED: u32 = 10000000;
 // One to three elements, by their numbers.
 #[derive(Clone, Copy)]
 pub enum Places {
-    Unread,
     One(u32),
     Two(u32, u32),
     Three(u32, u32, u32),
@@ -25,6 +22,7 @@ pub enum Places {
 // A record: names and the rule as spans of the text, a kind by its number. A label's element field is a span too, and after the tab
 // that ends it the label goes up to the line's end; so do the element fields of a fact or a pick after its name, and that of a member
 // after its type. A chosen relation's types are a span and, after the tab that ends it, another, which goes up to 0 where there are none.
+// A line that is no record has a variant of its own, so that the readers of a sheet match it beside the records that it takes.
 #[derive(Clone, Copy)]
 pub enum Entry {
     Wrong,
@@ -41,20 +39,6 @@ pub enum Entry {
     Step(u32),
 }
 
-// Elements, and where the name before them ends.
-#[derive(Clone, Copy)]
-struct Tuple {
-    end: usize,
-    places: Places,
-}
-
-// A step and where the next line begins, or some other line.
-#[derive(Clone, Copy)]
-enum Quick {
-    Step(u32, usize),
-    Other,
-}
-
 // A line's record, and where the next line begins.
 #[derive(Clone, Copy)]
 pub struct Read {
@@ -62,191 +46,186 @@ pub struct Read {
     pub next: usize,
 }
 
+// The record words.
+#[derive(Clone, Copy)]
+enum Word {
+    Rel,
+    Typed,
+    Choose,
+    Every,
+    Rule,
+    Size,
+    Label,
+    Member,
+    Fact,
+    Pick,
+    Step,
+}
+
+// The kinds that have a word, each by its number in an entry.
+#[derive(Clone, Copy)]
+enum Kind {
+    Fun = 2,
+    PFun = 3,
+    Inj = 4,
+    PInj = 5,
+}
+
 // The span is one field.
 fn one(s: &[u8], a: usize, e: usize) -> bool
     requires { (a ≤ e) × (e ≤ length s.now) }
     ensures { OneField s.now a e result }
 {
-    let t = read_text::find(s, a, e, 9);
-    if t < e {
-        return false;
+    read_text::find(s, a, e, 9) == e
+}
+
+// The number that the span is, if it is one field.
+fn one_number(s: &[u8], a: usize, e: usize) -> Option<u32>
+    requires { (a ≤ e) × (e ≤ length s.now) }
+    ensures { OneNumber s.now a e result }
+{
+    if one(s, a, e) {
+        read_text::number(s, a, e)
+    } else {
+        None
     }
-    true
 }
 
 // The place of the tab of a span of two fields.
-fn two(s: &[u8], a: usize, e: usize) -> Found
+fn two(s: &[u8], a: usize, e: usize) -> Option<usize>
     requires { (a ≤ e) × (e ≤ length s.now) }
     ensures { TwoFields s.now a e result }
 {
     let t = read_text::find(s, a, e, 9);
     if t == e {
-        return Found::Nowhere;
+        return None;
     }
     let u = read_text::find(s, t + 1, e, 9);
     if u < e {
-        return Found::Nowhere;
+        return None;
     }
-    Found::At(t)
+    Some(t)
 }
 
-// The arity that the span writes.
-fn arity(s: &[u8], a: usize, e: usize) -> Num
+// The arity that the span writes, of no more than `most` places.
+fn arity(s: &[u8], a: usize, e: usize, most: u32) -> Option<u32>
     requires { (a ≤ e) × (e ≤ length s.now) }
-    ensures { (result ≡ num_of (arity_of (slice a e s.now))) × IsArity result }
+    ensures is { result ≡ option_of (arity_to most (slice a e s.now)) }
+    ensures within { IfSome result (λ k. (1 ≤ k) × (k ≤ most)) }
 {
-    let n = read_text::number(s, a, e);
-    match n {
-        Num::Bad => Num::Bad,
-        Num::Is(k) => {
-            if k < 1 {
-                return Num::Bad;
-            }
-            if 3 < k {
-                return Num::Bad;
-            }
-            Num::Is(k)
-        }
+    let k = read_text::number(s, a, e)?;
+    if k < 1 {
+        return None;
     }
+    if most < k {
+        return None;
+    }
+    Some(k)
 }
 
-// The arity that the span writes after `every`: no more than two.
-fn every_arity(s: &[u8], a: usize, e: usize) -> Num
+// Where the name ends and the arity after it, of no more than `most` places, where the span is these two fields.
+fn name_and_arity(s: &[u8], a: usize, e: usize, most: u32) -> Option<(usize, u32)>
     requires { (a ≤ e) × (e ≤ length s.now) }
-    ensures { (result ≡ num_of (every_arity_of (slice a e s.now))) × IsArity result }
+    ensures { NameAndArity s.now a e most result }
 {
-    let n = arity(s, a, e);
-    match n {
-        Num::Bad => Num::Bad,
-        Num::Is(k) => {
-            if 2 < k {
-                return Num::Bad;
-            }
-            Num::Is(k)
-        }
-    }
+    let t = two(s, a, e)?;
+    let k = arity(s, t + 1, e, most)?;
+    Some((t, k))
 }
 
-// The number of the kind that the span names, 0 where it names none.
-fn kind_word(s: &[u8], a: usize, e: usize) -> u32
+// The kind that the span names.
+fn kind_word(s: &[u8], a: usize, e: usize) -> Option<Kind>
     requires { (a ≤ e) × (e ≤ length s.now) }
-    ensures { result ≡ kind_word (slice a e s.now) }
+    ensures { KindNamed (slice a e s.now) result }
 {
     if read_text::word(s, a, e, b"Fun") {
-        return 2;
+        return Some(Kind::Fun);
     }
     if read_text::word(s, a, e, b"PFun") {
-        return 3;
+        return Some(Kind::PFun);
     }
     if read_text::word(s, a, e, b"Inj") {
-        return 4;
+        return Some(Kind::Inj);
     }
     if read_text::word(s, a, e, b"PInj") {
-        return 5;
+        return Some(Kind::PInj);
     }
-    0
+    None
 }
 
-// The number of the record word that the span is, 0 where it is none. Most lines are facts or picks.
-fn record_word(s: &[u8], a: usize, e: usize) -> u32
+// The record word that the span is. Most lines are facts or picks.
+fn record_word(s: &[u8], a: usize, e: usize) -> Option<Word>
     requires { (a ≤ e) × (e ≤ length s.now) }
     ensures { Says (slice a e s.now) result }
 {
     if read_text::word(s, a, e, b"fact") {
-        return 9;
+        return Some(Word::Fact);
     }
     if read_text::word(s, a, e, b"pick") {
-        return 10;
+        return Some(Word::Pick);
     }
     if read_text::word(s, a, e, b"rel") {
-        return 1;
+        return Some(Word::Rel);
     }
     if read_text::word(s, a, e, b"type") {
-        return 2;
+        return Some(Word::Typed);
     }
     if read_text::word(s, a, e, b"choose") {
-        return 3;
+        return Some(Word::Choose);
     }
     if read_text::word(s, a, e, b"rule") {
-        return 4;
+        return Some(Word::Rule);
     }
     if read_text::word(s, a, e, b"every") {
-        return 5;
+        return Some(Word::Every);
     }
     if read_text::word(s, a, e, b"size") {
-        return 6;
+        return Some(Word::Size);
     }
     if read_text::word(s, a, e, b"label") {
-        return 7;
+        return Some(Word::Label);
     }
     if read_text::word(s, a, e, b"member") {
-        return 8;
+        return Some(Word::Member);
     }
     if read_text::word(s, a, e, b"step") {
-        return 11;
+        return Some(Word::Step);
     }
-    0
+    None
 }
 
-// The fields after `rel`.
-fn rel_entry(s: &[u8], a: usize, e: usize) -> Entry
-    requires { (a ≤ e) × (e ≤ length s.now) }
-    ensures { (entry_in s.now result ≡ with_two rel_of (split 9 (slice a e s.now))) × ((at : ℕ) → InText s.now at result) }
+// The two fields after `choose`, parted by the tab at t: a name, then a function kind or an arity.
+fn choose_untyped(s: &[u8], a: usize, t: usize, e: usize) -> Option<Entry>
+    requires { (a ≤ t) × (t < e) × (e ≤ length s.now) }
+    ensures { Tells s.now (choose_of (slice a t s.now ∷ slice (t + 1) e s.now ∷ [])) result }
 {
-    let f = two(s, a, e);
-    match f {
-        Found::Nowhere => Entry::Wrong,
-        Found::At(t) => {
-            let n = arity(s, t + 1, e);
-            match n {
-                Num::Bad => Entry::Wrong,
-                Num::Is(k) => Entry::Rel(a, t, k),
-            }
+    match kind_word(s, t + 1, e) {
+        Some(kind) => Some(Entry::Choose(a, t, 2, kind as u32, 0, 0, 0)),
+        None => {
+            let k = arity(s, t + 1, e, 3)?;
+            Some(Entry::Choose(a, t, k, 1, 0, 0, 0))
         }
     }
 }
 
-// The two fields after `choose`, parted by the tab at t: a name, then a function kind or an arity.
-fn choose_untyped(s: &[u8], a: usize, t: usize, e: usize) -> Entry
-    requires { (a ≤ t) × (t < e) × (e ≤ length s.now) }
-    ensures { (entry_in s.now result ≡ choose_of (slice a t s.now ∷ slice (t + 1) e s.now ∷ [])) × ((at : ℕ) → InText s.now at result) }
-{
-    let kind = kind_word(s, t + 1, e);
-    if kind == 0 {
-        let n = arity(s, t + 1, e);
-        return match n {
-            Num::Bad => Entry::Wrong,
-            Num::Is(k) => Entry::Choose(a, t, k, 1, 0, 0, 0),
-        };
-    }
-    Entry::Choose(a, t, 2, kind, 0, 0, 0)
-}
-
 // The fields after `choose` where there are more than two; the first two end at t and u. Only a function kind has types, and two of them.
-fn choose_typed(s: &[u8], a: usize, t: usize, u: usize, e: usize) -> Entry
+fn choose_typed(s: &[u8], a: usize, t: usize, u: usize, e: usize) -> Option<Entry>
     requires { (a ≤ t) × (t < u) × (u < e) × (e ≤ length s.now) }
-    ensures { (entry_in s.now result ≡ choose_of (slice a t s.now ∷ slice (t + 1) u s.now ∷ split 9 (slice (u + 1) e s.now)))
-        × ((at : ℕ) → InText s.now at result) }
+    ensures { Tells s.now (choose_of (slice a t s.now ∷ slice (t + 1) u s.now ∷ split 9 (slice (u + 1) e s.now))) result }
 {
-    let kind = kind_word(s, t + 1, u);
-    if kind == 0 {
-        return Entry::Wrong;
-    }
-    let f = two(s, u + 1, e);
-    match f {
-        Found::Nowhere => Entry::Wrong,
-        Found::At(v) => Entry::Choose(a, t, 2, kind, u + 1, v, e),
-    }
+    let kind = kind_word(s, t + 1, u)?;
+    let v = two(s, u + 1, e)?;
+    Some(Entry::Choose(a, t, 2, kind as u32, u + 1, v, e))
 }
 
 // The fields after `choose`.
-fn choose_entry(s: &[u8], a: usize, e: usize) -> Entry
+fn choose_entry(s: &[u8], a: usize, e: usize) -> Option<Entry>
     requires { (a ≤ e) × (e ≤ length s.now) }
-    ensures { (entry_in s.now result ≡ choose_of (split 9 (slice a e s.now))) × ((at : ℕ) → InText s.now at result) }
+    ensures { Tells s.now (choose_of (split 9 (slice a e s.now))) result }
 {
     let t = read_text::find(s, a, e, 9);
     if t == e {
-        return Entry::Wrong;
+        return None;
     }
     let u = read_text::find(s, t + 1, e, 9);
     if u == e {
@@ -255,296 +234,159 @@ fn choose_entry(s: &[u8], a: usize, e: usize) -> Entry
     choose_typed(s, a, t, u, e)
 }
 
-// The fields after `every`.
-fn every_entry(s: &[u8], a: usize, e: usize) -> Entry
-    requires { (a ≤ e) × (e ≤ length s.now) }
-    ensures { (entry_in s.now result ≡ with_two every_of (split 9 (slice a e s.now))) × ((at : ℕ) → InText s.now at result) }
-{
-    let f = two(s, a, e);
-    match f {
-        Found::Nowhere => Entry::Wrong,
-        Found::At(t) => {
-            let n = every_arity(s, t + 1, e);
-            match n {
-                Num::Bad => Entry::Wrong,
-                Num::Is(k) => Entry::Every(a, t, k),
-            }
-        }
-    }
-}
-
-// The field after `type`.
-fn type_entry(s: &[u8], a: usize, e: usize) -> Entry
-    requires { (a ≤ e) × (e ≤ length s.now) }
-    ensures { (entry_in s.now result ≡ with_one type_of (split 9 (slice a e s.now))) × ((at : ℕ) → InText s.now at result) }
-{
-    if one(s, a, e) {
-        return Entry::Typed(a, e);
-    }
-    Entry::Wrong
-}
-
-// The field after `rule`.
-fn rule_entry(s: &[u8], a: usize, e: usize) -> Entry
-    requires { (a ≤ e) × (e ≤ length s.now) }
-    ensures { (entry_in s.now result ≡ with_one rule_of (split 9 (slice a e s.now))) × ((at : ℕ) → a ≡ at + 5 → InText s.now at result) }
-{
-    if one(s, a, e) {
-        return Entry::Rule(a, e);
-    }
-    Entry::Wrong
-}
-
-// The field after `size`.
-fn size_entry(s: &[u8], a: usize, e: usize) -> Entry
-    requires { (a ≤ e) × (e ≤ length s.now) }
-    ensures { (entry_in s.now result ≡ with_one size_of (split 9 (slice a e s.now))) × ((at : ℕ) → InText s.now at result) }
-{
-    if one(s, a, e) {
-        let n = read_text::number(s, a, e);
-        return match n {
-            Num::Bad => Entry::Wrong,
-            Num::Is(k) => Entry::Size(k),
-        };
-    }
-    Entry::Wrong
-}
-
-// The field after `step`.
-fn step_entry(s: &[u8], a: usize, e: usize) -> Entry
-    requires { (a ≤ e) × (e ≤ length s.now) }
-    ensures { (entry_in s.now result ≡ with_one step_of (split 9 (slice a e s.now))) × ((at : ℕ) → InText s.now at result) }
-{
-    if one(s, a, e) {
-        let n = read_text::number(s, a, e);
-        return match n {
-            Num::Bad => Entry::Wrong,
-            Num::Is(k) => Entry::Step(k),
-        };
-    }
-    Entry::Wrong
-}
-
 // The number of an element field: its own, or that of a name.
-fn element(s: &[u8], a: usize, e: usize) -> Num
+fn element(s: &[u8], a: usize, e: usize) -> Option<u32>
     requires { (a ≤ e) × (e ≤ length s.now) }
-    ensures { result ≡ num_of (code_of (slice a e s.now)) }
+    ensures { result ≡ option_of (code_of (slice a e s.now)) }
 {
-    let n = read_text::number(s, a, e);
-    match n {
-        Num::Is(k) => Num::Is(k),
-        Num::Bad => {
+    match read_text::number(s, a, e) {
+        Some(k) => Some(k),
+        None => {
             if read_text::is_relation_name(s, a, e) {
-                return Num::Is(NAMED);
+                Some(NAMED)
+            } else {
+                None
             }
-            Num::Bad
         }
     }
 }
 
 // The fields after `label`.
-fn label_entry(s: &[u8], a: usize, e: usize) -> Entry
+fn label_entry(s: &[u8], a: usize, e: usize) -> Option<Entry>
     requires { (a ≤ e) × (e ≤ length s.now) }
-    ensures { (entry_in s.now result ≡ with_two label_of (split 9 (slice a e s.now))) × ((at : ℕ) → InText s.now at result) }
+    ensures { Tells s.now (with_two label_of (split 9 (slice a e s.now))) result }
 {
-    let f = two(s, a, e);
-    match f {
-        Found::Nowhere => Entry::Wrong,
-        Found::At(t) => {
-            if read_text::is_relation_name(s, t + 1, e) {
-                let n = element(s, a, t);
-                return match n {
-                    Num::Bad => Entry::Wrong,
-                    Num::Is(k) => Entry::Label(k, a, t, e),
-                };
-            }
-            Entry::Wrong
-        }
+    let t = two(s, a, e)?;
+    if !read_text::is_relation_name(s, t + 1, e) {
+        return None;
     }
+    let k = element(s, a, t)?;
+    Some(Entry::Label(k, a, t, e))
 }
 
 // The fields after `member`.
-fn member_entry(s: &[u8], a: usize, e: usize) -> Entry
+fn member_entry(s: &[u8], a: usize, e: usize) -> Option<Entry>
     requires { (a ≤ e) × (e ≤ length s.now) }
-    ensures { (entry_in s.now result ≡ with_two member_of (split 9 (slice a e s.now))) × ((at : ℕ) → InText s.now at result) }
+    ensures { Tells s.now (with_two member_of (split 9 (slice a e s.now))) result }
 {
-    let f = two(s, a, e);
-    match f {
-        Found::Nowhere => Entry::Wrong,
-        Found::At(t) => {
-            let n = element(s, t + 1, e);
-            match n {
-                Num::Bad => Entry::Wrong,
-                Num::Is(k) => Entry::Member(a, t, k, e),
-            }
-        }
-    }
+    let t = two(s, a, e)?;
+    let k = element(s, t + 1, e)?;
+    Some(Entry::Member(a, t, k, e))
 }
 
 // The third element.
-fn last(s: &[u8], a: usize, e: usize, x: u32, y: u32) -> Places
+fn last(s: &[u8], a: usize, e: usize, x: u32, y: u32) -> Option<Places>
     requires { (a ≤ e) × (e ≤ length s.now) }
     ensures { codes result ≡ consed x (consed y (up_to 1 (split 9 (slice a e s.now)))) }
 {
     let t = read_text::find(s, a, e, 9);
-    let n = element(s, a, t);
-    match n {
-        Num::Bad => Places::Unread,
-        Num::Is(z) => {
-            if t < e {
-                return Places::Unread;
-            }
-            Places::Three(x, y, z)
-        }
+    let z = element(s, a, t)?;
+    if t < e {
+        return None;
     }
+    Some(Places::Three(x, y, z))
 }
 
 // The second element, and the third if there is one.
-fn more(s: &[u8], a: usize, e: usize, x: u32) -> Places
+fn more(s: &[u8], a: usize, e: usize, x: u32) -> Option<Places>
     requires { (a ≤ e) × (e ≤ length s.now) }
     ensures { codes result ≡ consed x (up_to 2 (split 9 (slice a e s.now))) }
 {
     let t = read_text::find(s, a, e, 9);
-    let n = element(s, a, t);
-    match n {
-        Num::Bad => Places::Unread,
-        Num::Is(y) => {
-            if t < e {
-                return last(s, t + 1, e, x, y);
-            }
-            Places::Two(x, y)
-        }
+    let y = element(s, a, t)?;
+    if t < e {
+        return last(s, t + 1, e, x, y);
     }
+    Some(Places::Two(x, y))
 }
 
 // One to three elements.
-fn first(s: &[u8], a: usize, e: usize) -> Places
+fn first(s: &[u8], a: usize, e: usize) -> Option<Places>
     requires { (a ≤ e) × (e ≤ length s.now) }
     ensures { codes result ≡ up_to 3 (split 9 (slice a e s.now)) }
 {
     let t = read_text::find(s, a, e, 9);
-    let n = element(s, a, t);
-    match n {
-        Num::Bad => Places::Unread,
-        Num::Is(x) => {
-            if t < e {
-                return more(s, t + 1, e, x);
-            }
-            Places::One(x)
+    let x = element(s, a, t)?;
+    if t < e {
+        return more(s, t + 1, e, x);
+    }
+    Some(Places::One(x))
+}
+
+// Where the name after `fact` or `pick` ends, and the elements after it.
+fn name_first(s: &[u8], a: usize, e: usize) -> Option<(usize, Places)>
+    requires { (a ≤ e) × (e ≤ length s.now) }
+    ensures { Named s.now a e result }
+{
+    let t = read_text::find(s, a, e, 9);
+    if t == e {
+        return None;
+    }
+    let p = first(s, t + 1, e)?;
+    Some((t, p))
+}
+
+// What the fields from a up to e make after a record word.
+fn after_word(s: &[u8], a: usize, e: usize, word: Word) -> Option<Entry>
+    requires { (a ≤ e) × (e ≤ length s.now) }
+    ensures { TellsAfter s.now word a (made word (split 9 (slice a e s.now))) result }
+{
+    match word {
+        Word::Rel => {
+            let (t, k) = name_and_arity(s, a, e, 3)?;
+            Some(Entry::Rel(a, t, k))
         }
+        Word::Every => {
+            let (t, k) = name_and_arity(s, a, e, 2)?;
+            Some(Entry::Every(a, t, k))
+        }
+        Word::Typed => {
+            if one(s, a, e) {
+                Some(Entry::Typed(a, e))
+            } else {
+                None
+            }
+        }
+        Word::Rule => {
+            if one(s, a, e) {
+                Some(Entry::Rule(a, e))
+            } else {
+                None
+            }
+        }
+        Word::Size => {
+            let n = one_number(s, a, e)?;
+            Some(Entry::Size(n))
+        }
+        Word::Step => {
+            let k = one_number(s, a, e)?;
+            Some(Entry::Step(k))
+        }
+        Word::Fact => {
+            let (t, p) = name_first(s, a, e)?;
+            Some(Entry::Fact(a, t, e, p))
+        }
+        Word::Pick => {
+            let (t, p) = name_first(s, a, e)?;
+            Some(Entry::Pick(a, t, e, p))
+        }
+        Word::Choose => choose_entry(s, a, e),
+        Word::Label => label_entry(s, a, e),
+        Word::Member => member_entry(s, a, e),
     }
 }
 
-// The name and the elements after `fact` or `pick`.
-fn name_first(s: &[u8], a: usize, e: usize) -> Tuple
+// The record that the ended line from a up to e is.
+pub fn record(s: &[u8], a: usize, e: usize) -> Option<Entry>
     requires { (a ≤ e) × (e ≤ length s.now) }
-    ensures { Named s.now a e result.end result.places × (a ≤ result.end) × (result.end ≤ e) }
+    ensures { TellsAt s.now a (entry_of (split 9 (slice a e s.now))) result }
 {
     let t = read_text::find(s, a, e, 9);
     if t == e {
-        return Tuple {
-            end: e,
-            places: Places::Unread,
-        };
+        return None;
     }
-    let p = first(s, t + 1, e);
-    Tuple { end: t, places: p }
-}
-
-// The fields after `fact`.
-fn fact_entry(s: &[u8], a: usize, e: usize) -> Entry
-    requires { (a ≤ e) × (e ≤ length s.now) }
-    ensures { (entry_in s.now result ≡ with_elements fact_of (split 9 (slice a e s.now))) × ((at : ℕ) → InText s.now at result) }
-{
-    let n = name_first(s, a, e);
-    let t = n.end;
-    let p = n.places;
-    match p {
-        Places::Unread => Entry::Wrong,
-        Places::One(x) => Entry::Fact(a, t, e, Places::One(x)),
-        Places::Two(x, y) => Entry::Fact(a, t, e, Places::Two(x, y)),
-        Places::Three(x, y, z) => Entry::Fact(a, t, e, Places::Three(x, y, z)),
-    }
-}
-
-// The fields after `pick`.
-fn pick_entry(s: &[u8], a: usize, e: usize) -> Entry
-    requires { (a ≤ e) × (e ≤ length s.now) }
-    ensures { (entry_in s.now result ≡ with_elements pick_of (split 9 (slice a e s.now))) × ((at : ℕ) → InText s.now at result) }
-{
-    let n = name_first(s, a, e);
-    let t = n.end;
-    let p = n.places;
-    match p {
-        Places::Unread => Entry::Wrong,
-        Places::One(x) => Entry::Pick(a, t, e, Places::One(x)),
-        Places::Two(x, y) => Entry::Pick(a, t, e, Places::Two(x, y)),
-        Places::Three(x, y, z) => Entry::Pick(a, t, e, Places::Three(x, y, z)),
-    }
-}
-
-// What the fields from a up to e make after the record word of number k: a question's record, or another sheet's.
-fn question_entry(s: &[u8], a: usize, e: usize, k: u32) -> Entry
-    requires { (a ≤ e) × (e ≤ length s.now) × (k < 6) }
-    ensures { (entry_in s.now result ≡ made k (split 9 (slice a e s.now))) × ((at : ℕ) → (k ≡ 4 → a ≡ at + 5) → InText s.now at result) }
-{
-    if k == 1 {
-        return rel_entry(s, a, e);
-    }
-    if k == 2 {
-        return type_entry(s, a, e);
-    }
-    if k == 3 {
-        return choose_entry(s, a, e);
-    }
-    if k == 4 {
-        return rule_entry(s, a, e);
-    }
-    if k == 5 {
-        return every_entry(s, a, e);
-    }
-    Entry::Wrong
-}
-
-fn other_entry(s: &[u8], a: usize, e: usize, k: u32) -> Entry
-    requires { (a ≤ e) × (e ≤ length s.now) × (6 ≤ k) }
-    ensures { (entry_in s.now result ≡ made k (split 9 (slice a e s.now))) × ((at : ℕ) → InText s.now at result) }
-{
-    if k == 6 {
-        return size_entry(s, a, e);
-    }
-    if k == 7 {
-        return label_entry(s, a, e);
-    }
-    if k == 8 {
-        return member_entry(s, a, e);
-    }
-    if k == 9 {
-        return fact_entry(s, a, e);
-    }
-    if k == 10 {
-        return pick_entry(s, a, e);
-    }
-    if k == 11 {
-        return step_entry(s, a, e);
-    }
-    Entry::Wrong
-}
-
-// What the ended line from a up to e says.
-pub fn record(s: &[u8], a: usize, e: usize) -> Entry
-    requires { (a ≤ e) × (e ≤ length s.now) }
-    ensures { (entry_in s.now result ≡ entry_of (split 9 (slice a e s.now))) × InText s.now a result }
-{
-    let t = read_text::find(s, a, e, 9);
-    if t == e {
-        return Entry::Wrong;
-    }
-    let k = record_word(s, a, t);
-    if k < 6 {
-        return question_entry(s, t + 1, e, k);
-    }
-    other_entry(s, t + 1, e, k)
+    let word = record_word(s, a, t)?;
+    after_word(s, t + 1, e, word)
 }
 
 // What the first line from `at` on says, whatever its record, and where the next one begins.
@@ -560,34 +402,27 @@ fn any_line(s: &[u8], at: usize) -> Read
             next: n,
         };
     }
-    let x = record(s, at, e);
     Read {
-        entry: x,
+        entry: record(s, at, e).unwrap_or(Entry::Wrong),
         next: e + 1,
     }
 }
 
-// A good `step` line at `at`, by its first bytes and its digits alone.
-fn step_line(s: &[u8], at: usize) -> Quick
+// The number of a good `step` line at `at`, by its first bytes and its digits alone, and where the next line begins.
+fn step_line(s: &[u8], at: usize) -> Option<(u32, usize)>
     requires { at < length s.now }
     ensures { StepReads s.now at result }
 {
     let n = s.len();
-    if n - at < 7 {
-        return Quick::Other;
+    if n - at < 7 || !read_text::word(s, at, at + 5, b"step\t") {
+        return None;
     }
-    if read_text::word(s, at, at + 5, b"step\t") {
-        let e = read_text::find(s, at + 5, n, 10);
-        if e == n {
-            return Quick::Other;
-        }
-        let k = read_text::number(s, at + 5, e);
-        return match k {
-            Num::Bad => Quick::Other,
-            Num::Is(v) => Quick::Step(v, e + 1),
-        };
+    let e = read_text::find(s, at + 5, n, 10);
+    if e == n {
+        return None;
     }
-    Quick::Other
+    let k = read_text::number(s, at + 5, e)?;
+    Some((k, e + 1))
 }
 
 // What the first line from `at` on says, and where the next one begins.
@@ -595,10 +430,9 @@ pub fn line(s: &[u8], at: usize) -> Read
     requires { at < length s.now }
     ensures { (at < result.next) × (result.next ≤ length s.now) × Reads s.now at result.next result.entry × InText s.now at result.entry }
 {
-    let q = step_line(s, at);
-    match q {
-        Quick::Other => any_line(s, at),
-        Quick::Step(k, next) => Read {
+    match step_line(s, at) {
+        None => any_line(s, at),
+        Some((k, next)) => Read {
             entry: Entry::Step(k),
             next,
         },

@@ -1,8 +1,10 @@
 -- Laws of looking a relation up by its name: one relation more, the built-in ones before those declared, arities, kinds and sorts.
+use Rattle.std.specs.Prelude.{Some, None, is_some, MatchOption}
+use Rattle.std.specs.Prelude as P
 use Rattle.std.specs.Prelude.{if◌then◌else◌}
 use Prim.Native.Nat.{ℕ, zero, suc, ◌+◌, ◌-◌, ◌≤◌, ◌<◌}
 use mathlib.Core.Path.{◌≡◌, refl, sym, ap, ap₂, ◌∙◌}
-use mathlib.Core.Bool.{Bool, true, false, ◌&&◌, ◌||◌, and-true, and-false}
+use mathlib.Core.Bool.{Bool, true, false, ◌&&◌, ◌||◌, and-true}
 use mathlib.Core.Option.{Option, none, some}
 use mathlib.Core.List.{List, [], ◌∷◌, ◌++◌, append_assoc}
 use native.Mathlib.Numerals.{add-one}
@@ -10,21 +12,18 @@ use native.Mathlib.Omega.{arith}
 use lib.Dec.{eqb}
 use lib.ListN.{length, get_or}
 use lib.Seq.{slice, get_or-append-add}
-use borrow.Author.Tests.{eq-eqb, ne_eqb}
 use Rattle.definitions.specs.Lists.{same, any, option, listed, position}
 use Rattle.definitions.specs.Sheet.Relations.{Relation, static, fixed, built_in, number_of, is_declared}
 use Rattle.definitions.specs.Sheet.Sheets.{relations}
 use Rattle.definitions.specs.Sheet.Formula.{type_number}
-use Rattle.read_text.specs.Spans.{place_of, kind_of}
-use Rattle.read_text.specs.declared.Found.{Found}
-use Rattle.read_text.specs.declared.Found.TheVariants.{At, Nowhere}
+use Rattle.read_text.specs.Spans.{option_of, kind_of}
 use Rattle.read_names.specs.declared.Signature.{Signature}
-use Rattle.read_names.specs.Signatures.{with_arrays, lent_of, Lent, relation_in, relations_from, names_from, types_in, rels_of, chosen_of, last_of, every_of, all_of, built_in_table, matches, has_arity, counted, HasArity, HasKind, HasFirsts, HasSeconds}
+use Rattle.read_names.specs.Signatures.{is_wanted, with_arrays, lent_of, Lent, relation_in, relations_from, names_from, types_in, rels_of, chosen_of, last_of, every_of, all_of, built_in_table, matches, has_arity, counted, HasArity, HasKind, HasFirsts, HasSeconds}
 
 -- ---- the first element that passes a test
 
-is_some : Option ℕ → Bool
-is_some o = option o false (λ _. true)
+is_there : Option ℕ → Bool
+is_there o = option o false (λ _. true)
 
 module _ {A : Type 0} where
   pub position_ext : (p q : A → Bool) → ((x : A) → p x ≡ q x) → (xs : List A) → position p xs ≡ position q xs
@@ -32,23 +31,23 @@ module _ {A : Type 0} where
   position_ext p q h [] = refl
   position_ext p q h (x ∷ xs) = rw (h x, position_ext p q h xs)
 
-  any_position : (p q : A → Bool) → ((x : A) → p x ≡ q x) → (xs : List A) → any q xs ≡ is_some (position p xs)
-  unfolding position option any is_some
+  any_position : (p q : A → Bool) → ((x : A) → p x ≡ q x) → (xs : List A) → any q xs ≡ is_there (position p xs)
+  unfolding position option any is_there
   any_position p q h [] = refl
   any_position p q h (x ∷ xs) = rw (← h x, any_position p q h xs) (by_test (p x) (position p xs))
     where
-      by_test : (b : Bool) (o : Option ℕ) → (b || is_some o) ≡ is_some (if b then some zero else option o none (λ j. some (suc j)))
+      by_test : (b : Bool) (o : Option ℕ) → (b || is_there o) ≡ is_there (if b then some zero else option o none (λ j. some (suc j)))
       by_test true o = refl
       by_test false none = refl
       by_test false (some j) = refl
 
   pub any_found : (p q : A → Bool) → ((x : A) → p x ≡ q x) → (xs : List A) (i : ℕ) → position p xs ≡ some i → true ≡ any q xs
-  unfolding option is_some
-  any_found p q h xs i e = sym (any_position p q h xs ∙ ap is_some e)
+  unfolding option is_there
+  any_found p q h xs i e = sym (any_position p q h xs ∙ ap is_there e)
 
   pub any_missed : (p q : A → Bool) → ((x : A) → p x ≡ q x) → (xs : List A) → position p xs ≡ none → false ≡ any q xs
-  unfolding option is_some
-  any_missed p q h xs e = sym (any_position p q h xs ∙ ap is_some e)
+  unfolding option is_there
+  any_missed p q h xs e = sym (any_position p q h xs ∙ ap is_there e)
 
   -- it is one of them, and passes
   pub position_some : (p : A → Bool) (xs : List A) (i : ℕ) (d : A) → position p xs ≡ some i → (i < length xs) × (p (get_or xs i d) ≡ true)
@@ -83,16 +82,6 @@ module _ {A : Type 0} where
 
 -- ---- one relation more
 
-module _ (r : Bool) (x y : List ℕ) (any : Bool) (arity k : ℕ) where
-  pub fits_any : any ≡ true → r ≡ same x y → r ≡ (same x y && (any || eqb arity k))
-  fits_any e w = rw e (w ∙ sym (and-true (same x y)))
-
-  pub fits_arity : any ≡ false → arity ≡ k → r ≡ same x y → r ≡ (same x y && (any || eqb arity k))
-  fits_arity e h w = rw (e, eq-eqb arity k h) (w ∙ sym (and-true (same x y)))
-
-pub fits_other : (x y : List ℕ) (any : Bool) (arity k : ℕ) → any ≡ false → (arity ≡ k → ⊥) → false ≡ (same x y && (any || eqb arity k))
-fits_other x y any arity k e h = rw (e, ne_eqb arity k h) (sym (and-false (same x y)))
-
 counted_next : (k : ℕ) (o : Option ℕ) → counted k (option o none (λ i. some (suc i))) ≡ counted (k + 1) o
 unfolding counted option
 counted_next k none = refl
@@ -108,22 +97,22 @@ module _ (q : List ℕ) (g : Signature) where
   unfolding relations_from
   next_relation i hi h = let z : hi - i ≡ suc (hi - (i + 1)) = omega arith in rw z (rw (add-one i))
 
-  module _ (name : List ℕ) (any : Bool) (k : ℕ) where
+  module _ (name : List ℕ) (wanted : P.Option ℕ) where
     module _ (i hi : ℕ) (h : i < hi) where
-      pub look_hit : (same (slice (get_or g.from i 0) (get_or g.to i 0) q) name && (any || eqb (get_or g.arity i 0) k)) ≡ true
-          → counted i (position (matches name any k) (relations_from q g i (hi - i))) ≡ some i
+      pub look_hit : (same (slice (get_or g.from i 0) (get_or g.to i 0) q) name && is_wanted wanted (get_or g.arity i 0)) ≡ true
+          → counted i (position (matches name wanted) (relations_from q g i (hi - i))) ≡ some i
       unfolding position matches relation_in counted option
       look_hit e = let z : i + 0 ≡ i = omega arith in rw (next_relation i hi h) (rw e (ap (λ (m : ℕ). some m) z))
 
-      pub look_miss : (same (slice (get_or g.from i 0) (get_or g.to i 0) q) name && (any || eqb (get_or g.arity i 0) k)) ≡ false
-          → counted i (position (matches name any k) (relations_from q g i (hi - i))) ≡ counted (i + 1) (position (matches name any k) (relations_from q g (i + 1) (hi - (i + 1))))
+      pub look_miss : (same (slice (get_or g.from i 0) (get_or g.to i 0) q) name && is_wanted wanted (get_or g.arity i 0)) ≡ false
+          → counted i (position (matches name wanted) (relations_from q g i (hi - i))) ≡ counted (i + 1) (position (matches name wanted) (relations_from q g (i + 1) (hi - (i + 1))))
       unfolding position matches relation_in
-      look_miss e = rw (next_relation i hi h) (rw e (counted_next i (position (matches name any k) (relations_from q g (i + 1) (hi - (i + 1))))))
+      look_miss e = rw (next_relation i hi h) (rw e (counted_next i (position (matches name wanted) (relations_from q g (i + 1) (hi - (i + 1))))))
 
-    pub look_start : (lo m : ℕ) → counted lo (position (matches name any k) (relations_from q g lo m)) ≡ counted lo (position (matches name any k) (relations_from q g lo (lo + m - lo)))
+    pub look_start : (lo m : ℕ) → counted lo (position (matches name wanted) (relations_from q g lo m)) ≡ counted lo (position (matches name wanted) (relations_from q g lo (lo + m - lo)))
     look_start lo m = let z : lo + m - lo ≡ m = omega arith in rw z
 
-    pub look_end : (i hi : ℕ) → hi ≤ i → counted i (position (matches name any k) (relations_from q g i (hi - i))) ≡ none
+    pub look_end : (i hi : ℕ) → hi ≤ i → counted i (position (matches name wanted) (relations_from q g i (hi - i))) ≡ none
     unfolding position relations_from counted option
     look_end i hi h = let z : hi - i ≡ 0 = omega arith in rw z
 
@@ -158,46 +147,54 @@ built_in_are : relations_from (69 ∷ 81 ∷ 76 ∷ 84 ∷ 83 ∷ 85 ∷ 67 ∷ 
 unfolding relations_from relation_in built_in_table built_in kind_of
 built_in_are = refl
 
-pub found_some : (o : Option ℕ) (i : ℕ) (f : Found) → f ≡ At i → f ≡ place_of o → o ≡ some i
+pub found_some : (o : Option ℕ) (i : ℕ) (f : P.Option ℕ) → f ≡ Some i → f ≡ option_of o → o ≡ some i
 found_some none i f p q = let z : ◌≡◌ {A = ℕ} 0 1 = cc in absurd (omega arith)
 found_some (some j) i f p q = cc
 
-pub found_none : (o : Option ℕ) (f : Found) → f ≡ Nowhere → f ≡ place_of o → o ≡ none
+pub found_none : (o : Option ℕ) (f : P.Option ℕ) → f ≡ None → f ≡ option_of o → o ≡ none
 found_none none f p q = refl
 found_none (some j) f p q = let z : ◌≡◌ {A = ℕ} 0 1 = cc in absurd (omega arith)
+
+no_some : (f : P.Option ℕ) → is_some f ≡ false → f ≡ None
+no_some None e = refl
+no_some (Some i) e = let z : ◌≡◌ {A = Bool} true false = e in cc
 
 module _ (q : List ℕ) (g : Signature) (one : g.every ≤ 1) (p : Relation → Bool) where
   in_all : position p (all_of q g) ≡ option (position p built_in) (counted 5 (position p (relations_from q g 0 (g.rels + g.chosen + g.every)))) (λ i. some i)
   unfolding built_in
   in_all = ap (position p) (all_are q g one) ∙ position_append p built_in (relations_from q g 0 (g.rels + g.chosen + g.every))
 
-  module _ (b : Found) (w : b ≡ place_of (counted 0 (position p (relations_from (69 ∷ 81 ∷ 76 ∷ 84 ∷ 83 ∷ 85 ∷ 67 ∷ 90 ∷ 69 ∷ 82 ∷ 79 ∷ 77 ∷ 65 ∷ 88 ∷ []) built_in_table 0 5)))) where
-    among_built_in : b ≡ place_of (position p built_in)
-    among_built_in = w ∙ ap place_of (counted_zero _ ∙ ap (position p) built_in_are)
+  module _ (b : P.Option ℕ) (w : b ≡ option_of (counted 0 (position p (relations_from (69 ∷ 81 ∷ 76 ∷ 84 ∷ 83 ∷ 85 ∷ 67 ∷ 90 ∷ 69 ∷ 82 ∷ 79 ∷ 77 ∷ 65 ∷ 88 ∷ []) built_in_table 0 5)))) where
+    among_built_in : b ≡ option_of (position p built_in)
+    among_built_in = w ∙ ap option_of (counted_zero _ ∙ ap (position p) built_in_are)
 
-    pub in_built_in : (i : ℕ) → b ≡ At i → At i ≡ place_of (position p (all_of q g))
+    pub in_built_in : is_some b ≡ true → b ≡ option_of (position p (all_of q g))
     unfolding option
-    in_built_in i e = let w : position p (all_of q g) ≡ some i = in_all ∙ rw (found_some (position p built_in) i b e among_built_in) in sym (ap place_of w)
+    in_built_in e = by_answer b e among_built_in
+      where
+        by_answer : (c : P.Option ℕ) → is_some c ≡ true → c ≡ option_of (position p built_in) → c ≡ option_of (position p (all_of q g))
+        by_answer None e v = let z : ◌≡◌ {A = Bool} false true = e in cc
+        by_answer (Some i) e v = let w : position p (all_of q g) ≡ some i = in_all ∙ rw (found_some (position p built_in) i (Some i) refl v) in sym (ap option_of w)
 
-    module _ (e : b ≡ Nowhere) (m : ℕ) (all : m ≡ g.rels + g.chosen + g.every) (d : Found) (v : d ≡ place_of (counted 0 (position p (relations_from q g 0 m)))) where
+    module _ (e : is_some b ≡ false) (m : ℕ) (all : m ≡ g.rels + g.chosen + g.every) (d : P.Option ℕ) (v : d ≡ option_of (counted 0 (position p (relations_from q g 0 m)))) where
       past_built_in : position p (all_of q g) ≡ counted 5 (position p (relations_from q g 0 (g.rels + g.chosen + g.every)))
       unfolding option
-      past_built_in = in_all ∙ rw (found_none (position p built_in) b e among_built_in)
+      past_built_in = in_all ∙ rw (found_none (position p built_in) b (no_some b e) among_built_in)
 
-      among_declared : d ≡ place_of (position p (relations_from q g 0 (g.rels + g.chosen + g.every)))
-      among_declared = v ∙ ap place_of (counted_zero _ ∙ ap (λ (n : ℕ). position p (relations_from q g 0 n)) all)
+      among_declared : d ≡ option_of (position p (relations_from q g 0 (g.rels + g.chosen + g.every)))
+      among_declared = v ∙ ap option_of (counted_zero _ ∙ ap (λ (n : ℕ). position p (relations_from q g 0 n)) all)
 
-      pub in_declared : (i : ℕ) → d ≡ At i → At (5 + i) ≡ place_of (position p (all_of q g))
+      pub in_declared : (i : ℕ) → d ≡ Some i → Some (5 + i) ≡ option_of (position p (all_of q g))
       unfolding counted option
       in_declared i f =
           let w : position p (all_of q g) ≡ some (5 + i) = past_built_in ∙ rw (found_some (position p (relations_from q g 0 (g.rels + g.chosen + g.every))) i d f among_declared) in
-          sym (ap place_of w)
+          sym (ap option_of w)
 
-      pub in_none : d ≡ Nowhere → Nowhere ≡ place_of (position p (all_of q g))
+      pub in_none : d ≡ None → None ≡ option_of (position p (all_of q g))
       unfolding counted option
       in_none f =
           let w : position p (all_of q g) ≡ none = past_built_in ∙ rw (found_none (position p (relations_from q g 0 (g.rels + g.chosen + g.every))) d f among_declared) in
-          sym (ap place_of w)
+          sym (ap option_of w)
 
 -- ---- what was found
 
@@ -221,7 +218,7 @@ relation_at_lem q g i (suc m) zero d h = let z : i ≡ i + 0 = omega arith in ap
 relation_at_lem q g i (suc m) (suc j) d h = let z : suc i + j ≡ i + suc j = omega arith in relation_at_lem q g (suc i) m j d (omega arith) ∙ ap (relation_in q g) z
 
 -- a relation that was found is one of those looked at, and fits
-pub look_found : (q : List ℕ) (g : Signature) (p : Relation → Bool) (lo m i : ℕ) (f : Found) → f ≡ At i → f ≡ place_of (counted lo (position p (relations_from q g lo m)))
+pub look_found : (q : List ℕ) (g : Signature) (p : Relation → Bool) (lo m i : ℕ) (f : P.Option ℕ) → f ≡ Some i → f ≡ option_of (counted lo (position p (relations_from q g lo m)))
     → (lo ≤ i) × (i < lo + m) × (p (relation_in q g i) ≡ true)
 look_found q g p lo m i f e w =
     let (j, s, z) = counted_some lo (position p (relations_from q g lo m)) i (found_some _ i f e w) in
@@ -232,33 +229,26 @@ look_found q g p lo m i f e w =
 -- ---- by the name alone, and by name and arity
 
 module _ (rs : List Relation) (name : List ℕ) where
-  any_arity : (r : Relation) → matches name true 0 r ≡ same r.name name
+  any_arity : (r : Relation) → matches name None r ≡ same r.name name
   unfolding matches
   any_arity r = and-true (same r.name name)
 
-  one_arity : (k : ℕ) (r : Relation) → matches name false k r ≡ has_arity name k r
+  one_arity : (k : ℕ) (r : Relation) → matches name (Some k) r ≡ has_arity name k r
   unfolding matches has_arity
   one_arity k r = refl
 
-  pub by_name : (f : Found) → f ≡ place_of (position (matches name true 0) rs) → f ≡ place_of (number_of rs name)
+  pub by_name : (f : P.Option ℕ) → f ≡ option_of (position (matches name None) rs) → f ≡ option_of (number_of rs name)
   unfolding number_of
-  by_name f w = w ∙ ap place_of (position_ext (matches name true 0) (λ (r : Relation). same r.name name) any_arity rs)
+  by_name f w = w ∙ ap option_of (position_ext (matches name None) (λ (r : Relation). same r.name name) any_arity rs)
 
-  module _ (f : Found) (w : f ≡ place_of (number_of rs name)) where
-    pub is_declared_lem : (i : ℕ) → f ≡ At i → true ≡ is_declared rs name
-    unfolding is_declared number_of
-    is_declared_lem i e = any_found (λ (r : Relation). same r.name name) (λ (r : Relation). same r.name name) (λ r. refl) rs i (found_some _ i f e w)
+  pub is_declared_lem : (f : P.Option ℕ) → f ≡ option_of (number_of rs name) → is_some f ≡ is_declared rs name
+  unfolding is_declared number_of
+  is_declared_lem None w = any_missed (λ (r : Relation). same r.name name) (λ (r : Relation). same r.name name) (λ r. refl) rs (found_none _ None refl w)
+  is_declared_lem (Some i) w = any_found (λ (r : Relation). same r.name name) (λ (r : Relation). same r.name name) (λ r. refl) rs i (found_some _ i (Some i) refl w)
 
-    pub not_declared : f ≡ Nowhere → false ≡ is_declared rs name
-    unfolding is_declared number_of
-    not_declared e = any_missed (λ (r : Relation). same r.name name) (λ (r : Relation). same r.name name) (λ r. refl) rs (found_none _ f e w)
-
-  module _ (k : ℕ) (f : Found) (w : f ≡ place_of (position (matches name false k) rs)) where
-    pub is_known : (i : ℕ) → f ≡ At i → true ≡ any (has_arity name k) rs
-    is_known i e = any_found (matches name false k) (has_arity name k) (one_arity k) rs i (found_some _ i f e w)
-
-    pub not_known : f ≡ Nowhere → false ≡ any (has_arity name k) rs
-    not_known e = any_missed (matches name false k) (has_arity name k) (one_arity k) rs (found_none _ f e w)
+  pub is_known : (k : ℕ) (f : P.Option ℕ) → f ≡ option_of (position (matches name (Some k)) rs) → is_some f ≡ any (has_arity name k) rs
+  is_known k None w = any_missed (matches name (Some k)) (has_arity name k) (one_arity k) rs (found_none _ None refl w)
+  is_known k (Some i) w = any_found (matches name (Some k)) (has_arity name k) (one_arity k) rs i (found_some _ i (Some i) refl w)
 
 -- ---- names alone: the arities do not matter
 
@@ -274,8 +264,8 @@ same_number q g A name one =
     ∙ ap (λ (o : Option ℕ). option (position (λ (r : Relation). same r.name name) built_in) (counted 5 o) (λ i. some i)) (same_names (λ (n : List ℕ). same n name) q g A 0 (g.rels + g.chosen + g.every))
     ∙ sym (in_all q g one (λ (r : Relation). same r.name name))
 
-pub by_lent : (q : List ℕ) (g : Signature) (F T A : List ℕ) (m : ℕ) (name : List ℕ) (f : Found) → Lent g F T m → f ≡ place_of (position (matches name true 0) (all_of q (with_arrays g F T A))) → f ≡ place_of (number_of (all_of q g) name)
-by_lent q g F T A m name f l w = by_name (all_of q (with_arrays g F T A)) name f w ∙ ap place_of (ap (λ (x : List ℕ). number_of (all_of q (with_arrays g x T A)) name) l.from_is ∙ ap (λ (x : List ℕ). number_of (all_of q (with_arrays g g.from x A)) name) l.to_is ∙ same_number q g A name l.one)
+pub by_lent : (q : List ℕ) (g : Signature) (F T A : List ℕ) (m : ℕ) (name : List ℕ) (f : P.Option ℕ) → Lent g F T m → f ≡ option_of (position (matches name None) (all_of q (with_arrays g F T A))) → f ≡ option_of (number_of (all_of q g) name)
+by_lent q g F T A m name f l w = by_name (all_of q (with_arrays g F T A)) name f w ∙ ap option_of (ap (λ (x : List ℕ). number_of (all_of q (with_arrays g x T A)) name) l.from_is ∙ ap (λ (x : List ℕ). number_of (all_of q (with_arrays g g.from x A)) name) l.to_is ∙ same_number q g A name l.one)
 
 -- ---- arities, kinds and sorts by number
 
@@ -368,28 +358,28 @@ module _ (name : List ℕ) (k : ℕ) where
 
 -- ---- types: names alone, from entry 13 on
 
-counted_none : (o : Option ℕ) → counted 13 o ≡ none → Nowhere ≡ place_of o
+counted_none : (o : Option ℕ) → counted 13 o ≡ none → None ≡ option_of o
 unfolding counted option
 counted_none none e = refl
 counted_none (some j) e = let z : ◌≡◌ {A = ℕ} 0 1 = cc in absurd (omega arith)
 
-names_are : (name q : List ℕ) (g : Signature) (F T A : List ℕ) (i k : ℕ) → position (matches name true 0) (relations_from q (with_arrays g F T A) i k) ≡ position (λ t. same t name) (names_from q F T i k)
+names_are : (name q : List ℕ) (g : Signature) (F T A : List ℕ) (i k : ℕ) → position (matches name None) (relations_from q (with_arrays g F T A) i k) ≡ position (λ t. same t name) (names_from q F T i k)
 unfolding position matches relations_from relation_in names_from
 names_are name q g F T A i zero = refl
 names_are name q g F T A i (suc k) = rw (and-true (same (slice (get_or F i 0) (get_or T i 0) q) name), names_are name q g F T A (suc i) k)
 
-module _ (q : List ℕ) (g : Signature) (F T A : List ℕ) (k : ℕ) (name : List ℕ) (f : Found) (w : f ≡ place_of (counted 13 (position (matches name true 0) (relations_from q (with_arrays g F T A) 13 k)))) where
-  by_slot : f ≡ place_of (counted 13 (type_number (types_in q F T k) name))
+module _ (q : List ℕ) (g : Signature) (F T A : List ℕ) (k : ℕ) (name : List ℕ) (f : P.Option ℕ) (w : f ≡ option_of (counted 13 (position (matches name None) (relations_from q (with_arrays g F T A) 13 k)))) where
+  by_slot : f ≡ option_of (counted 13 (type_number (types_in q F T k) name))
   unfolding type_number
-  by_slot = w ∙ ap (λ (o : Option ℕ). place_of (counted 13 o)) (names_are name q g F T A 13 k)
+  by_slot = w ∙ ap (λ (o : Option ℕ). option_of (counted 13 o)) (names_are name q g F T A 13 k)
 
-  pub type_found : (i : ℕ) → f ≡ At i → At (i - 13) ≡ place_of (type_number (types_in q F T k) name)
+  pub type_found : (i : ℕ) → f ≡ Some i → Some (i - 13) ≡ option_of (type_number (types_in q F T k) name)
   type_found i e =
       let (j, o, z) = counted_some 13 (type_number (types_in q F T k) name) i (found_some _ i f e by_slot) in
       let y : i - 13 ≡ j = omega arith in
       rw (o, y)
 
-  pub type_missed : f ≡ Nowhere → Nowhere ≡ place_of (type_number (types_in q F T k) name)
+  pub type_missed : f ≡ None → None ≡ option_of (type_number (types_in q F T k) name)
   type_missed e = counted_none (type_number (types_in q F T k) name) (found_none _ f e by_slot)
 
 pub length_names : (q F T : List ℕ) (i k : ℕ) → length (names_from q F T i k) ≡ k

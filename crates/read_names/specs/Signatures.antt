@@ -1,5 +1,7 @@
 -- A signature as the code holds it, the relations and types that it stands for, and what looking one up by its name means.
-use Rattle.std.specs.Prelude.{ℕ, zero, suc, ◌+◌, ◌≤◌, ◌<◌, ◌≡◌, Bool, ◌&&◌, ◌||◌, List, [], ◌∷◌, eqb, length, get_or}
+use Rattle.std.specs.Prelude.{ℕ, zero, suc, ◌+◌, ◌≤◌, ◌<◌, ◌≡◌, Bool, true, ◌&&◌, List, [], ◌∷◌, eqb, length, get_or}
+use Rattle.std.specs.Prelude.{Some, None}
+use Rattle.std.specs.Prelude as P
 use Rattle.std.proofs.Math.Option.{Option, none, some}
 use Rattle.std.proofs.Math.Seq.{slice}
 use Rattle.definitions.specs.Lists.{same, option}
@@ -97,9 +99,14 @@ built_in_table = record {
   seconds = 0 ∷ 0 ∷ 0 ∷ 0 ∷ 0 ∷ 0 ∷ 0 ∷ 0 ∷ 0 ∷ 0 ∷ 0 ∷ 0 ∷ 0 ∷ [];
 }
 
--- a relation has the name and, unless any will do, the arity k; it has both
-unfoldable pub matches : List ℕ → Bool → ℕ → Relation → Bool
-matches name any k r = same r.name name && (any || eqb r.arity k)
+-- an arity is the wanted one, or none is wanted
+abbrev pub is_wanted : P.Option ℕ → ℕ → Bool
+is_wanted None a = true
+is_wanted (Some k) a = eqb a k
+
+-- a relation has the name and the wanted arity; it has the name and the arity k
+unfoldable pub matches : List ℕ → P.Option ℕ → Relation → Bool
+matches name wanted r = same r.name name && is_wanted wanted r.arity
 
 unfoldable pub has_arity : List ℕ → ℕ → Relation → Bool
 has_arity name k r = same r.name name && eqb r.arity k

@@ -2,15 +2,13 @@
 // and a type's.
 #![tactic(auto)]
 
-ghost use Rattle.std.specs.Prelude.{◌≡◌, ◌&&◌, ◌||◌, ◌+◌, ◌≤◌, ◌<◌, eqb, length};
+ghost use Rattle.std.specs.Prelude.{◌≡◌, ◌&&◌, ◌+◌, ◌≤◌, ◌<◌, length};
 ghost use Rattle.std.proofs.Math.Seq.{slice};
 ghost use Rattle.definitions.specs.Lists.{same, any as any_of, position};
 ghost use Rattle.definitions.specs.Sheet.Relations.{number_of, is_declared};
 ghost use Rattle.definitions.specs.Sheet.Formula.{type_number};
-ghost use Rattle.read_text.specs.Spans.{place_of};
-ghost use Rattle.read_names.specs.Signatures.{relations_from, types_in, all_of, with_arrays, lent_of, Lent, matches, has_arity, counted};
-
-use read_text::Found;
+ghost use Rattle.read_text.specs.Spans.{option_of};
+ghost use Rattle.read_names.specs.Signatures.{is_wanted, relations_from, types_in, all_of, with_arrays, lent_of, Lent, matches, has_arity, counted};
 
 // How many relations a question declares at the most.
 pub const DECLARED: usize = 13;
@@ -43,7 +41,7 @@ const ENDS: [usize; DECLARED] = [2, 4, 7, 11, 14, 0, 0, 0, 0, 0, 0, 0, 0];
 
 const ARITIES: [usize; DECLARED] = [2, 2, 2, 1, 1, 0, 0, 0, 0, 0, 0, 0, 0];
 
-// A relation with the name from b to f of q, and an arity, has the name from a to e of s and, unless any will do, the arity k.
+// A relation with the name from b to f of q, and an arity, has the name from a to e of s and the wanted arity, or any where none is.
 fn fits(
     q: &[u8],
     b: usize,
@@ -52,22 +50,15 @@ fn fits(
     s: &[u8],
     a: usize,
     e: usize,
-    any: bool,
-    k: usize,
+    wanted: Option<usize>,
 ) -> bool
-    ensures { result ≡ (same (slice b f q.now) (slice a e s.now) && (any || eqb arity k)) }
+    ensures { result ≡ (same (slice b f q.now) (slice a e s.now) && is_wanted wanted arity) }
 {
-    if any {
-        return read_text::same_span(q, b, f, s, a, e);
-    }
-    if arity == k {
-        return read_text::same_span(q, b, f, s, a, e);
-    }
-    false
+    wanted.is_none_or(|k| arity == k) && read_text::same_span(q, b, f, s, a, e)
 }
 
-// The first of the m relations from lo on that has the name from a to e of s and, unless any will do, the arity k. The arrays of a
-// signature come as slices, so that no call copies it.
+// The first of the m relations from lo on that has the name from a to e of s and the wanted arity, or any where none is. The
+// arrays of a signature come as slices, so that no call copies it.
 pub fn lookup(
     q: &[u8],
     from: &[usize],
@@ -78,26 +69,23 @@ pub fn lookup(
     s: &[u8],
     a: usize,
     e: usize,
-    any: bool,
-    k: usize,
-) -> Found
+    wanted: Option<usize>,
+) -> Option<usize>
     requires { (lo + m ≤ 21) × (lo + m ≤ length from.now) × (lo + m ≤ length to.now) × (lo + m ≤ length arity.now) }
-    ensures { (g : Signature) → result ≡ place_of (counted lo (position (matches (slice a e s.now) any k)
+    ensures { (g : Signature) → result ≡ option_of (counted lo (position (matches (slice a e s.now) wanted)
         (relations_from q.now (with_arrays g from.now to.now arity.now) lo m))) }
 {
     let hi = lo + m;
-    let mut i = lo;
-    while i < hi {
-        if fits(q, from[i], to[i], arity[i], s, a, e, any, k) {
-            return Found::At(i);
+    for i in lo..hi {
+        if fits(q, from[i], to[i], arity[i], s, a, e, wanted) {
+            return Some(i);
         }
-        i += 1;
     }
-    Found::Nowhere
+    None
 }
 
-// The number of the first relation of all that has the name and, unless any will do, the arity k. Declared are the m of a signature
-// whose arrays are lent.
+// The number of the first relation of all that has the name and the wanted arity, or any where none is. Declared are the m of a
+// signature whose arrays are lent.
 fn search(
     s: &[u8],
     from: &[usize],
@@ -106,14 +94,13 @@ fn search(
     m: usize,
     a: usize,
     e: usize,
-    any: bool,
-    k: usize,
-) -> Found
+    wanted: Option<usize>,
+) -> Option<usize>
     requires { (m ≤ 13) × (13 ≤ length from.now) × (13 ≤ length to.now) × (13 ≤ length arity.now) }
-    ensures { (g : Signature) → m ≡ g.rels + g.chosen + g.every → g.every ≤ 1 → result ≡ place_of (position (matches (slice a e s.now) any k)
+    ensures { (g : Signature) → m ≡ g.rels + g.chosen + g.every → g.every ≤ 1 → result ≡ option_of (position (matches (slice a e s.now) wanted)
         (all_of s.now (with_arrays g from.now to.now arity.now))) }
 {
-    let b = lookup(
+    let built_in = lookup(
         b"EQLTSUCZEROMAX",
         &STARTS,
         &ENDS,
@@ -123,28 +110,29 @@ fn search(
         s,
         a,
         e,
-        any,
-        k,
+        wanted,
     );
-    match b {
-        Found::At(i) => Found::At(i),
-        Found::Nowhere => {
-            let d = lookup(s, from, to, arity, 0, m, s, a, e, any, k);
-            match d {
-                Found::At(i) => Found::At(5 + i),
-                Found::Nowhere => Found::Nowhere,
-            }
-        }
+    if built_in.is_some() {
+        return built_in;
     }
+    let i = lookup(s, from, to, arity, 0, m, s, a, e, wanted)?;
+    Some(5 + i)
 }
 
 // The number of the relation that the span names, in a signature whose names and count are lent. Any arity will do, so that no array
 // of arities is looked at.
-pub fn relation(s: &[u8], from: &[usize], to: &[usize], m: usize, a: usize, e: usize) -> Found
+pub fn relation(
+    s: &[u8],
+    from: &[usize],
+    to: &[usize],
+    m: usize,
+    a: usize,
+    e: usize,
+) -> Option<usize>
     requires { (m ≤ 13) × (13 ≤ length from.now) × (13 ≤ length to.now) }
-    ensures { (g : Signature) → Lent g from.now to.now m → result ≡ place_of (number_of (all_of s.now g) (slice a e s.now)) }
+    ensures { (g : Signature) → Lent g from.now to.now m → result ≡ option_of (number_of (all_of s.now g) (slice a e s.now)) }
 {
-    search(s, from, to, from, m, a, e, true, 0)
+    search(s, from, to, from, m, a, e, None)
 }
 
 // Whether the span names a relation, in a signature whose names and count are lent.
@@ -152,11 +140,7 @@ pub fn is_declared(s: &[u8], from: &[usize], to: &[usize], m: usize, a: usize, e
     requires { (m ≤ 13) × (13 ≤ length from.now) × (13 ≤ length to.now) }
     ensures { (g : Signature) → Lent g from.now to.now m → result ≡ is_declared (all_of s.now g) (slice a e s.now) }
 {
-    let f = relation(s, from, to, m, a, e);
-    match f {
-        Found::At(_) => true,
-        Found::Nowhere => false,
-    }
+    relation(s, from, to, m, a, e).is_some()
 }
 
 // Whether the span names a relation with `count` places, among those of a signature whose arrays and count are lent.
@@ -173,11 +157,7 @@ pub fn known(
     requires { m ≤ 13 }
     ensures { result ≡ any_of (has_arity (slice a e s.now) count) (all_of s.now (lent_of from.now to.now arity.now m)) }
 {
-    let f = search(s, from, to, arity, m, a, e, false, count);
-    match f {
-        Found::At(_) => true,
-        Found::Nowhere => false,
-    }
+    search(s, from, to, arity, m, a, e, Some(count)).is_some()
 }
 
 // The number of the type that the span from a to e of s names, among the first k of a signature whose names are lent.
@@ -189,13 +169,10 @@ pub fn type_named(
     s: &[u8],
     a: usize,
     e: usize,
-) -> Found
+) -> Option<usize>
     requires { (k ≤ 8) × (21 ≤ length from.now) × (21 ≤ length to.now) }
-    ensures { result ≡ place_of (type_number (types_in q.now from.now to.now k) (slice a e s.now)) }
+    ensures { result ≡ option_of (type_number (types_in q.now from.now to.now k) (slice a e s.now)) }
 {
-    let f = lookup(q, from, to, from, DECLARED, k, s, a, e, true, 0);
-    match f {
-        Found::At(i) => Found::At(i - DECLARED),
-        Found::Nowhere => Found::Nowhere,
-    }
+    let i = lookup(q, from, to, from, DECLARED, k, s, a, e, None)?;
+    Some(i - DECLARED)
 }

@@ -1,4 +1,10 @@
 -- The lines of a plan from a place on, as far as they are read; and their steps, as far as they are written. Assumes nothing.
+use Rattle.std.specs.Prelude.{Ok, Err}
+use Rattle.std.specs.Prelude as P
+use Rattle.refusal.specs.declared.Cause.{Cause}
+use Rattle.refusal.specs.declared.Cause.TheVariants.{NoRecord}
+use Rattle.refusal.specs.declared.Refusal.{Refusal}
+use Rattle.refusal.specs.Numbers.{number_of}
 use Rattle.std.specs.Prelude.{ℕ, ◌+◌, ◌-◌, ◌≤◌, ◌<◌, ◌≡◌, Bool, true, false, eqb, ltb, get_or, if◌then◌else◌}
 use Rattle.std.proofs.Math.Path.{refl, sym, ap, ap₂, subst}
 use Rattle.std.proofs.Common.{◌∙◌, arith, lt-ltb, le-ltb, ltb-true, ltb-false}
@@ -77,13 +83,15 @@ unfolding read_lines
 read_stop s at acc q = rw (lines_stop s at q)
 
 -- ---- how the lines are formed: a refusal, or how many they are
-unfoldable pub FormedAs : Result (List PlanLine) → (fault place count : ℕ) → Type 0
-FormedAs (refused k at) fault place count = (fault ≡ k) × (place ≡ at) × (0 < k)
-FormedAs (accepted ls) fault place count = (fault ≡ 0) × (count ≡ length ls)
+unfoldable pub FormedAs : Result (List PlanLine) → P.Result ℕ Refusal → Type 0
+FormedAs (refused k at) (Err e) = (number_of e.cause ≡ k) × (e.place ≡ at)
+FormedAs (refused k at) (Ok count) = ⊥
+FormedAs (accepted ls) (Err e) = ⊥
+FormedAs (accepted ls) (Ok count) = count ≡ length ls
 
-pub formed_refused : (s : List ℕ) (k place count : ℕ) → 0 < k → read_plan_lines s ≡ refused k place → FormedAs (read_plan_lines s) k place count
+pub formed_refused : (s : List ℕ) (c : Cause) (place : ℕ) → read_plan_lines s ≡ refused (number_of c) place → FormedAs (read_plan_lines s) (Err (record { cause = c; place = place }))
 unfolding FormedAs
-formed_refused s k place count h e = rw e (refl, refl, h)
+formed_refused s c place e = rw e (refl, refl)
 
 -- so many lines were read
 unfoldable pub Going : List ℕ → (at count : ℕ) → Type 0
@@ -111,17 +119,17 @@ module _ (s : List ℕ) (at w count : ℕ) (here : at < length s) (q : w ≡ at 
       let (ws, m) = some_is (words_in (folded (slice at w s))) e in
       (acc ++ (record { at = at; words = ws } ∷ []), r ∙ read_some s at w here q acc l ws m, omega (arith, length-append acc (record { at = at; words = ws } ∷ [])))
 
-  pub going_wrong : w < length s → is_some (words_in (folded (slice at w s))) ≡ false → FormedAs (read_plan_lines s) 2 at count
+  pub going_wrong : w < length s → is_some (words_in (folded (slice at w s))) ≡ false → FormedAs (read_plan_lines s) (Err (record { cause = NoRecord; place = at }))
   unfolding Going
-  going_wrong l e = let (acc, r, n) = going in formed_refused s 2 at count (omega arith) (r ∙ read_none s at w here q acc l (none_is (words_in (folded (slice at w s))) e))
+  going_wrong l e = let (acc, r, n) = going in formed_refused s NoRecord at (r ∙ read_none s at w here q acc l (none_is (words_in (folded (slice at w s))) e))
 
-  pub going_open : length s ≤ w → FormedAs (read_plan_lines s) 2 at count
+  pub going_open : length s ≤ w → FormedAs (read_plan_lines s) (Err (record { cause = NoRecord; place = at }))
   unfolding Going
-  going_open l = let (acc, r, n) = going in formed_refused s 2 at count (omega arith) (r ∙ read_open s at w here q acc l)
+  going_open l = let (acc, r, n) = going in formed_refused s NoRecord at (r ∙ read_open s at w here q acc l)
 
-pub going_end : (s : List ℕ) (at count : ℕ) → at ≡ length s → Going s at count → FormedAs (read_plan_lines s) 0 0 count
+pub going_end : (s : List ℕ) (at count : ℕ) → at ≡ length s → Going s at count → FormedAs (read_plan_lines s) (Ok count)
 unfolding Going FormedAs
-going_end s at count e (acc, r, n) = rw (r ∙ read_stop s at acc e) (refl, sym n)
+going_end s at count e (acc, r, n) = rw (r ∙ read_stop s at acc e) (sym n)
 
 -- ---- the steps of lines that were read
 pub read_within : (s : List ℕ) (ls : List PlanLine) → read_plan_lines s ≡ accepted ls → length s ≤ text_limit

@@ -1,5 +1,8 @@
 -- The number of the step that a name and objects are, by the table. Assumes nothing.
 use Rattle.std.specs.Prelude.{ℕ, ◌+◌, ◌*◌, ◌^◌, ◌≤◌, ◌<◌, ◌≡◌, Bool, true, false, List, eqb, ltb, take, if◌then◌else◌}
+use Rattle.std.specs.Prelude.{Some, None, Ok, Err, OkIff}
+use Rattle.std.specs.Result.{result_ok}
+use Rattle.std.specs.Prelude as P
 use Rattle.std.proofs.Math.Path.{refl, ap}
 use Rattle.std.proofs.Common.{sym, ap₂, subst, ◌∙◌, arith}
 use Rattle.std.proofs.Math.Option.{Option, none, some}
@@ -16,21 +19,27 @@ use Rattle.print_names.specs.declared.Name.TheVariants as N
 unfoldable pub sized : ℕ → ℕ → ℕ → Option ℕ
 sized count wanted m = if eqb count wanted then (if ltb m (2 ^ 32) then some m else none) else none
 
-unfoldable pub told : Bool → ℕ → Option ℕ
-told there m = if there then some m else none
+unfoldable pub told : P.Option ℕ → Option ℕ
+told None = none
+told (Some m) = some m
 
 module _ (count wanted m : ℕ) where
-  pub sized_other : (count ≡ wanted → ⊥) → told false 0 ≡ sized count wanted m
+  pub sized_other : (count ≡ wanted → ⊥) → told None ≡ sized count wanted m
   unfolding sized told
   sized_other h = rw (ne_eqb count wanted h) refl
 
-  pub sized_large : count ≡ wanted → 2 ^ 32 ≤ m → told false 0 ≡ sized count wanted m
+  sized_large : count ≡ wanted → 2 ^ 32 ≤ m → told None ≡ sized count wanted m
   unfolding sized told
   sized_large h l = rw (eq-eqb count wanted h, le-ltb m (2 ^ 32) l) refl
 
-  pub sized_there : count ≡ wanted → m < 2 ^ 32 → told true m ≡ sized count wanted m
+  sized_there : count ≡ wanted → m < 2 ^ 32 → told (Some m) ≡ sized count wanted m
   unfolding sized told
   sized_there h l = rw (eq-eqb count wanted h, lt-ltb m (2 ^ 32) l) refl
+
+  -- as a conversion to 32 bits tells
+  pub sized_tried : {E : Type 0} (r : P.Result ℕ E) → count ≡ wanted → OkIff r (m < 2 ^ 32) m → told (result_ok r) ≡ sized count wanted m
+  sized_tried (Ok x) h w = ap (λ (k : ℕ). told (Some k)) w.1 ∙ sized_there h w.0
+  sized_tried (Err e) h w = sized_large h (omega (arith, w))
 
 -- of a node: so many steps a row, the one of number `choice`, with `more` values beside the row's
 unfoldable pub node_number : (w values : List ℕ) → (count v each choice more : ℕ) → Option ℕ
@@ -79,7 +88,7 @@ module _ (w values : List ℕ) (count v z : ℕ) (x : NodeLine) (e : x ≡ node_
   second : get_or values ((node_line w v).width + 1) 0 ≡ z
   second = sym (q ∙ ap (λ (y : NodeLine). get_or values (y.width + 1) 0) e)
 
-  pub next_none : (z ≡ get_or values x.width 0 + 1 → ⊥) → told false 0 ≡ next_number w values count v
+  pub next_none : (z ≡ get_or values x.width 0 + 1 → ⊥) → told None ≡ next_number w values count v
   unfolding next_number told
   next_none h = rw (second, ne_eqb z (get_or values (node_line w v).width 0 + 1) (λ y. h (y ∙ ap (λ (u : NodeLine). get_or values u.width 0 + 1) (sym e)))) refl
 

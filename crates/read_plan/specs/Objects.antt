@@ -1,4 +1,8 @@
 -- The objects of a plan's line, and the row of the first of them. Assumes nothing.
+use native.Mathlib.Decide.{dec_lt}
+use Rattle.std.specs.Prelude.{min}
+use Rattle.std.specs.Prelude.{Some, None}
+use Rattle.std.specs.Prelude as P
 use Rattle.std.specs.Prelude.{ℕ, zero, suc, ◌+◌, ◌*◌, ◌^◌, ◌≤◌, ◌<◌, eqb, ltb, get_or, set, if◌then◌else◌}
 use Rattle.std.proofs.Math.Path.{◌≡◌, refl, sym, ap}
 use Rattle.std.proofs.Common.{◌∙◌, add-one, mul-le-mul, take-suc-set}
@@ -14,9 +18,7 @@ use Rattle.definitions.specs.Sheet.Text.{split, number}
 use Rattle.definitions.specs.Problem.Atoms.{row_of}
 use Rattle.definitions.specs.Reply.Pddl.{small, folded, object_from, objects_from}
 use Rattle.laws.specs.Rows.{Below, cons_below, row_lt, row_snoc}
-use Rattle.read_text.specs.Spans.{index_of, num_of}
-use Rattle.read_text.specs.declared.Num.{Num}
-use Rattle.read_text.specs.declared.Num.TheVariants.{Is, Bad}
+use Rattle.read_text.specs.Spans.{index_of, option_of}
 use Rattle.read_line.proofs.Fields.{num_is, num_bad}
 use Rattle.read_plan.specs.Spelled.{number_folded}
 use Rattle.read_plan.specs.Words.{folded_next, folded_none, first_word_lem}
@@ -42,18 +44,26 @@ module _ (s : List ℕ) (a e n : ℕ) (k : e ≤ length s) where
     pub object_other : (b : ℕ) → b ≡ small (get_or s a 0) → (b ≡ 111 → ⊥) → object_of n n ≡ object_from n (folded (slice a e s))
     object_other b q z = none_of n ∙ sym (its ∙ rw (sym q, ne_eqb b 111 z) refl)
 
-    module _ (b : ℕ) (q : b ≡ small (get_or s a 0)) (z : b ≡ 111) (v : Num) (r : v ≡ num_of (number (slice (a + 1) e s))) where
-      pub object_bad : v ≡ Bad → object_of n n ≡ object_from n (folded (slice a e s))
+    module _ (b : ℕ) (q : b ≡ small (get_or s a 0)) (z : b ≡ 111) (v : P.Option ℕ) (r : v ≡ option_of (number (slice (a + 1) e s))) where
+      pub object_bad : v ≡ None → object_of n n ≡ object_from n (folded (slice a e s))
       unfolding option
       object_bad y = none_of n ∙ sym (its ∙ rw (sym q, eq-eqb b 111 z, num_bad (number (slice (a + 1) e s)) v y r) refl)
 
-      pub object_is : (x : ℕ) → v ≡ Is x → object_of n x ≡ object_from n (folded (slice a e s))
+      object_is : (x : ℕ) → v ≡ Some x → object_of n x ≡ object_from n (folded (slice a e s))
       unfolding option
       object_is x y = sym (its ∙ rw (sym q, eq-eqb b 111 z, num_is (number (slice (a + 1) e s)) v x y r) refl)
 
-      pub object_large : (x : ℕ) → v ≡ Is x → n ≤ x → object_of n n ≡ object_from n (folded (slice a e s))
+      object_large : (x : ℕ) → v ≡ Some x → n ≤ x → object_of n n ≡ object_from n (folded (slice a e s))
       unfolding object_of
       object_large x y l = none_of n ∙ sym (sym (object_is x y) ∙ rw (le-ltb x n l) refl)
+
+      -- the lesser of the number and n
+      pub object_least : (x m : ℕ) → v ≡ Some x → m ≡ min x n → object_of n m ≡ object_from n (folded (slice a e s))
+      object_least x m y w = by_order (dec_lt x n)
+        where
+          by_order : Dec (x < n) → object_of n m ≡ object_from n (folded (slice a e s))
+          by_order (yes l) = let z : m ≡ x = omega arith in rw z (object_is x y)
+          by_order (no l) = let z : m ≡ n = omega arith in rw z (object_large x y (omega arith))
 
 -- ---- several, after the space at t
 unfoldable pub words_after : List ℕ → ℕ → ℕ → List (List ℕ)

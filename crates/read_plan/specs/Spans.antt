@@ -1,4 +1,6 @@
 -- A word as a span of a text: its bytes, its parts and its numbers, letters folded. Assumes nothing.
+use Rattle.std.specs.Prelude.{Some, None}
+use Rattle.std.specs.Prelude as P
 use Prim.Native.Nat.{ℕ, zero, suc, ◌+◌, ◌-◌, ◌≤◌, ◌<◌}
 use Rattle.std.specs.Prelude.{◌≡◌, Bool, ltb, length, get_or, drop}
 use Rattle.std.proofs.Math.Path.{refl, sym, ap, ap₂}
@@ -17,9 +19,7 @@ use Rattle.definitions.specs.Reply.Lifted.{and_name, exists_name}
 use Rattle.definitions.specs.Reply.Outcome.{written}
 use Rattle.definitions.specs.Reply.Pddl.{small, folded}
 use Rattle.read_text.specs.Spans.{index_of}
-use Rattle.read_text.specs.declared.Num.{Num}
-use Rattle.read_text.specs.declared.Num.TheVariants.{Is, Bad}
-use Rattle.read_text.specs.Spans.{num_of}
+use Rattle.read_text.specs.Spans.{option_of}
 use Rattle.read_text.proofs.Laws.{span_at, same_hit, same_miss, same_end, same_length}
 use Rattle.read_line.proofs.Fields.{num_is, num_bad}
 use Rattle.print_names.specs.declared.Name.{Name}
@@ -86,11 +86,11 @@ pub number_none : (s : List ℕ) (a e : ℕ) → e < a → e ≤ length s → 10
 unfolding number_or number option all no_leading_zero
 number_none s a e h k = sym (ap number_or (no_span s a e h k))
 
-pub number_bad : (t : List ℕ) (n : Num) → n ≡ num_of (number t) → n ≡ Bad → 10000000 ≡ number_or t
+pub number_bad : (t : List ℕ) (n : P.Option ℕ) → n ≡ option_of (number t) → n ≡ None → 10000000 ≡ number_or t
 unfolding number_or option
 number_bad t n q e = sym (ap (λ (o : Option ℕ). option o 10000000 (λ v. v)) (num_bad (number t) n e q))
 
-pub number_is : (t : List ℕ) (n : Num) (k : ℕ) → n ≡ num_of (number t) → n ≡ Is k → k ≡ number_or t
+pub number_is : (t : List ℕ) (n : P.Option ℕ) (k : ℕ) → n ≡ option_of (number t) → n ≡ Some k → k ≡ number_or t
 unfolding number_or option
 number_is t n k q e = sym (ap (λ (o : Option ℕ). option o 10000000 (λ v. v)) (num_is (number t) n k e q))
 

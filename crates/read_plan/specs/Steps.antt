@@ -1,5 +1,6 @@
 -- The step of a line's words. Assumes nothing.
 use Rattle.std.specs.Prelude.{ℕ, zero, suc, ◌+◌, ◌≤◌, ◌<◌, ◌≡◌, Bool, true, false, length, take, replicate, if◌then◌else◌}
+use Rattle.std.specs.Prelude.{None}
 use Rattle.std.proofs.Math.Path.{refl, sym, ap, subst}
 use Rattle.std.proofs.Common.{◌∙◌, ne_eqb}
 use Rattle.std.proofs.Math.Option.{Option, none, some}
@@ -109,7 +110,7 @@ module _ (c : Case) (question names w : List ℕ) (P : Posed c question names w)
     unfolding step_of
     too_many a xs h l = rw (ne_eqb (length xs) (schema_of c a).parameters (λ q. omega (arith, parameters_few a h))) refl
 
-    pub step_many : (values : List ℕ) (r : ℕ) → Objects (size_in w) ws values r → 6 < r → told false 0 ≡ step_from c p (word ∷ ws)
+    pub step_many : (values : List ℕ) (r : ℕ) → Objects (size_in w) ws values r → 6 < r → told None ≡ step_from c p (word ∷ ws)
     unfolding Objects option told
     step_many values r (x, y, z) l = sym (step_words ∙ by_name (name_from c word) refl)
       where
@@ -141,7 +142,7 @@ module _ (c : Case) (question names w : List ℕ) (P : Posed c question names w)
     (q : t ≡ a + index_of 32 (slice a e s)) (k : Name)
     (n : name_of k ≡ name_from c (folded (slice a t s))) where
   pub line_many : (values : List ℕ) (r : ℕ) → Objects (size_in w) (words_after s t e) values r → 6 < r
-      → told false 0 ≡ step_from c (problem_of c) (split 32 (folded (slice a e s)))
+      → told None ≡ step_from c (problem_of c) (split 32 (folded (slice a e s)))
   line_many values r O m = step_many c question names w P (folded (slice a t s)) (words_after s t e) k n values r O m
       ∙ ap (step_from c (problem_of c)) (sym (line_words_lem s a t e h l q))
 

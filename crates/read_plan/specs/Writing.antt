@@ -1,5 +1,11 @@
 -- The steps of a plan's lines, as far as they are written. Assumes nothing.
-use Rattle.std.specs.Prelude.{ℕ, zero, suc, ◌+◌, ◌-◌, ◌≤◌, ◌<◌, ◌≡◌, true, false, length, set}
+use Rattle.std.specs.Prelude.{Ok, Err}
+use Rattle.std.specs.Prelude as P
+use Rattle.refusal.specs.declared.Cause.TheVariants.{BeyondPddl}
+use Rattle.refusal.specs.declared.Refusal.{Refusal}
+use Rattle.refusal.specs.Numbers.{number_of}
+use Rattle.std.specs.Prelude.{Some, None}
+use Rattle.std.specs.Prelude.{ℕ, zero, suc, ◌+◌, ◌-◌, ◌≤◌, ◌<◌, ◌≡◌, length, set}
 use Rattle.std.proofs.Math.Path.{refl, sym, subst}
 use Rattle.std.proofs.Common.{ap, ◌∙◌, arith, length-set}
 use mathlib.Core.List.{List, [], ◌∷◌}
@@ -16,15 +22,17 @@ use Rattle.read_plan.specs.Numbers.{told}
 use Rattle.read_plan.specs.Tails.{Posed}
 
 -- how reading the steps ends: a refusal, or the numbers written
-unfoldable pub StepsAs : Result (List ℕ) → (fault place count : ℕ) → (old new : List ℕ) → Type 0
-StepsAs (refused k at) fault place count old new = (fault ≡ k) × (place ≡ at) × (0 < k)
-StepsAs (accepted ks) fault place count old new = (fault ≡ 0) × (count ≡ length ks) × (new ≡ print old 0 ks)
+unfoldable pub StepsAs : Result (List ℕ) → P.Result ℕ Refusal → (old new : List ℕ) → Type 0
+StepsAs (refused k at) (Err e) old new = (number_of e.cause ≡ k) × (e.place ≡ at)
+StepsAs (refused k at) (Ok count) old new = ⊥
+StepsAs (accepted ks) (Err e) old new = ⊥
+StepsAs (accepted ks) (Ok count) old new = (count ≡ length ks) × (new ≡ print old 0 ks)
 
 -- of every case that the table may be of
-abbrev pub StepsEnd : (question names w s : List ℕ) (fault place count : ℕ) (old new : List ℕ) → Type 0
-StepsEnd question names w s fault place count old new =
+abbrev pub StepsEnd : (question names w s : List ℕ) → P.Result ℕ Refusal → (old new : List ℕ) → Type 0
+StepsEnd question names w s r old new =
     (c : Case) → Posed c question names w → (ls : List PlanLine) → read_plan_lines s ≡ accepted ls
-    → StepsAs (steps_from c (problem_of c) ls) fault place count old new
+    → StepsAs (steps_from c (problem_of c) ls) r old new
 
 pub record Came (c : Case) (s : List ℕ) (ls : List PlanLine) (old : List ℕ) (at count : ℕ) (out : List ℕ) : Type 0 where
   pub before : List PlanLine
@@ -49,7 +57,7 @@ module _ (question names w s old : List ℕ) (at count : ℕ) (out : List ℕ) (
     unfolding Goes
     line_whole c P ls e = let t = turned c P ls e (G c P ls e) in (t.ended, t.wide)
 
-    pub goes_on : (m : ℕ) → ((c : Case) → Posed c question names w → told true m ≡ step_from c (problem_of c) (split 32 (folded (slice (at + 1) (end - 1) s))))
+    pub goes_on : (m : ℕ) → ((c : Case) → Posed c question names w → told (Some m) ≡ step_from c (problem_of c) (split 32 (folded (slice (at + 1) (end - 1) s))))
         → (new : List ℕ) → new ≡ set out count m → Goes question names w s old (end + 1) (count + 1) new
     unfolding Goes told
     goes_on m h new z c P ls e =
@@ -57,21 +65,20 @@ module _ (question names w s old : List ℕ) (at count : ℕ) (out : List ℕ) (
         subst (λ (x : List ℕ). Came c s ls old (end + 1) (count + 1) x) (sym z)
         (record { before = _; rest = (turned c P ls e C).next; wrote = wrote_more c (problem_of c) C.before old count out C.wrote at _ m (sym (h c P)) })
 
-    pub goes_stop : (m : ℕ)
-        → ((c : Case) → Posed c question names w → told false m ≡ step_from c (problem_of c) (split 32 (folded (slice (at + 1) (end - 1) s))))
-        → StepsEnd question names w s 22 at count old out
+    pub goes_stop : ((c : Case) → Posed c question names w → told None ≡ step_from c (problem_of c) (split 32 (folded (slice (at + 1) (end - 1) s))))
+        → StepsEnd question names w s (Err (record { cause = BeyondPddl; place = at })) old out
     unfolding Goes told StepsAs
-    goes_stop m h c P ls e =
+    goes_stop h c P ls e =
         let C = G c P ls e in
         let z = wrote_stop c (problem_of c) C.before old count out C.wrote at _ s ls (end + 1) (turned c P ls e C).next (sym (h c P)) in
-        subst (λ (r : Result (List ℕ)). StepsAs r 22 at count old out) (sym z) (refl, refl, omega arith)
+        subst (λ (r : Result (List ℕ)). StepsAs r (Err (record { cause = BeyondPddl; place = at })) old out) (sym z) (refl, refl)
 
-  pub goes_all : at ≡ length s → StepsEnd question names w s 0 0 count old out
+  pub goes_all : at ≡ length s → StepsEnd question names w s (Ok count) old out
   unfolding Goes StepsAs
   goes_all h c P ls e =
       let C = G c P ls e in
       let W = wrote_all c (problem_of c) s ls C.before old at count out C.rest h C.wrote in
-      subst (λ (r : Result (List ℕ)). StepsAs r 0 0 count old out) (sym W.are) (refl, sym W.many, W.table)
+      subst (λ (r : Result (List ℕ)). StepsAs r (Ok count) old out) (sym W.are) (sym W.many, W.table)
 
 -- a number beyond the table is written nowhere
 pub set_past : (out : List ℕ) (i x : ℕ) → length out ≤ i → out ≡ set out i x

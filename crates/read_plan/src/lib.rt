@@ -24,9 +24,10 @@ ghost use Rattle.read_plan.specs.Objects.{object_of, words_after, Objects};
 ghost use Rattle.read_plan.specs.Numbers.{told, sized, node_number, set_number, exists_number, next_number, or_number, number_by, NameFits};
 
 use print_names::Name;
-use read_text::Num;
+use refusal::{Cause, Refusal};
 
-// No action has so many parameters, and no node such a number.
+// No action has so many parameters, and no node such a number: a name that was misspelt has it, and so is none of the domain's, with no
+// Option for each of its numbers.
 const MANY: usize = 7;
 
 const NO_NODE: usize = 10000000;
@@ -39,54 +40,19 @@ struct Choice {
     more: usize,
 }
 
-// A step's number, if there is one.
-#[derive(Clone, Copy)]
-pub struct Step {
-    pub there: bool,
-    pub number: usize,
-}
-
-// How the lines were read: a refusal's number and place, or fault 0 and how many there are.
-#[derive(Clone, Copy)]
-pub struct Ended {
-    pub fault: u32,
-    pub place: usize,
-    pub count: usize,
-}
-
 // A letter as a small one.
 fn small(b: u8) -> u8
     ensures { result ≡ «small_of» b }
 {
-    if b < 65 {
-        return b;
-    }
-    if 90 < b {
-        return b;
-    }
-    b + 32
+    if b.is_ascii_uppercase() { b + 32 } else { b }
 }
 
 // A byte of a word: a letter, a digit, `_` or `-`.
 fn is_word_byte(b: u8) -> bool
     ensures { result ≡ is_word_byte («small_of» b) }
 {
-    if b < 48 {
-        return b == 45;
-    }
-    if b <= 57 {
-        return true;
-    }
-    if b < 65 {
-        return false;
-    }
-    if b <= 90 {
-        return true;
-    }
-    if b < 97 {
-        return b == 95;
-    }
-    b <= 122
+    let c = small(b);
+    c.is_ascii_lowercase() | c.is_ascii_digit() | (c == b'_') | (c == b'-')
 }
 
 // The span is a word.
@@ -97,11 +63,8 @@ fn is_word(s: &[u8], a: usize, e: usize) -> bool
     if a == e {
         return false;
     }
-    let mut i = a;
-    while i < e {
-        if is_word_byte(s[i]) {
-            i += 1;
-        } else {
+    for i in a..e {
+        if !is_word_byte(s[i]) {
             return false;
         }
     }
@@ -115,6 +78,7 @@ fn all_words(s: &[u8], a: usize, e: usize) -> bool
 {
     let mut i = a;
     let mut j = read_text::find(s, a, e, 32);
+    // no count: the next word begins where this one ended
     while j < e {
         if is_word(s, i, j) {
             i = j + 1;
@@ -143,45 +107,29 @@ fn is_formed(s: &[u8], a: usize, e: usize) -> bool
     all_words(s, a + 1, e - 1)
 }
 
-// How the lines of a plan are formed: 1 where the text is too long, 2 and where a line begins that is not words in brackets.
-pub fn form(s: &[u8]) -> Ended
-    ensures { FormedAs (read_plan_lines s.now) result.fault result.place result.count }
+// How many lines a plan has; refused where the text is too long, and where a line begins that is not words in brackets.
+pub fn form(s: &[u8]) -> Result<usize, Refusal>
+    ensures { FormedAs (read_plan_lines s.now) result }
 {
     let n = s.len();
     if read_text::LIMIT < n {
-        return Ended {
-            fault: 1,
-            place: 0,
-            count: 0,
-        };
+        return Err(Cause::TooLong.at(0));
     }
     let mut at: usize = 0;
     let mut count: usize = 0;
+    // no count: the next line begins where this one ended
     while at < n {
         let e = read_text::find(s, at, n, 10);
         if e == n {
-            return Ended {
-                fault: 2,
-                place: at,
-                count,
-            };
+            return Err(Cause::NoRecord.at(at));
         }
-        if is_formed(s, at, e) {
-            at = e + 1;
-            count += 1;
-        } else {
-            return Ended {
-                fault: 2,
-                place: at,
-                count,
-            };
+        if !is_formed(s, at, e) {
+            return Err(Cause::NoRecord.at(at));
         }
+        at = e + 1;
+        count += 1;
     }
-    Ended {
-        fault: 0,
-        place: 0,
-        count,
-    }
+    Ok(count)
 }
 
 // The first n bytes of t are those of s from a on, but for letters.
@@ -189,12 +137,10 @@ fn same_letters(t: &[u8], n: usize, s: &[u8], a: usize) -> bool
     requires { (n ≤ length t.now) × (a + n ≤ length s.now) }
     ensures { result ≡ same (folded (take n t.now)) (folded (slice a (a + n) s.now)) }
 {
-    let mut i: usize = 0;
-    while i < n {
+    for i in 0..n {
         if small(t[i]) != small(s[a + i]) {
             return false;
         }
-        i += 1;
     }
     true
 }
@@ -224,10 +170,9 @@ fn number_in(s: &[u8], a: usize, e: usize) -> usize
     if e < a {
         return NO_NODE;
     }
-    let v = read_text::number(s, a, e);
-    match v {
-        Num::Bad => NO_NODE,
-        Num::Is(k) => k as usize,
+    match read_text::number(s, a, e) {
+        None => NO_NODE,
+        Some(k) => k as usize,
     }
 }
 
@@ -380,12 +325,10 @@ fn set_name(question: &[u8], names: &[usize], table: &[usize], s: &[u8], a: usiz
     ensures { (c : Case) → Accepted c → Is (problem_of c) table.now → NamesAre (problem_of c) question.now names.now → SetFound c (folded (slice a e s.now)) result }
 {
     let rels = table[1];
-    let mut r: usize = 0;
-    while r < rels {
+    for r in 0..rels {
         if is_set(question, names, table, r, s, a, e) {
             return Name::Set(r);
         }
-        r += 1;
     }
     Name::Nobody
 }
@@ -422,16 +365,9 @@ fn object(s: &[u8], a: usize, e: usize, n: usize) -> usize
     if small(s[a]) != 111 {
         return n;
     }
-    let x = read_text::number(s, a + 1, e);
-    match x {
-        Num::Bad => n,
-        Num::Is(k) => {
-            let v = k as usize;
-            if v < n {
-                return v;
-            }
-            n
-        }
+    match read_text::number(s, a + 1, e) {
+        None => n,
+        Some(k) => (k as usize).min(n),
     }
 }
 
@@ -442,6 +378,7 @@ fn objects(s: &[u8], t: usize, e: usize, n: usize, values: &mut [usize]) -> usiz
 {
     let mut count: usize = 0;
     let mut at = t;
+    // no count: the next word begins where this one ended
     while at < e {
         let f = read_text::find(s, at + 1, e, 32);
         let x = object(s, at + 1, f, n);
@@ -464,45 +401,33 @@ fn row(n: usize, values: &[usize], count: usize) -> usize
     ensures { (result ≡ row_of n (take count values.now)) × (result < 2 ^ 36) }
 {
     let mut sum: usize = 0;
-    let mut i: usize = 0;
-    while i < count {
+    for i in 0..count {
         sum = sum * n + values[i];
-        i += 1;
     }
     sum
 }
 
-// No step.
-fn no_step() -> Step
-    ensures { (result.there ≡ false) × (result.number ≡ 0) }
-{
-    Step {
-        there: false,
-        number: 0,
-    }
-}
-
 // The step of number `number`, if there are as many values as there are to be.
-fn step_if(count: usize, wanted: usize, number: usize) -> Step
-    ensures { (told result.there result.number ≡ sized count wanted number) × (result.number < 2 ^ 32) }
+fn step_if(count: usize, wanted: usize, number: usize) -> Option<u32>
+    ensures { told result ≡ sized count wanted number }
 {
     if count != wanted {
-        return no_step();
+        return None;
     }
-    if 4294967295 < number {
-        return no_step();
-    }
-    Step {
-        there: true,
-        number,
-    }
+    u32::try_from(number).ok()
 }
 
 // The step that sets a tuple.
-fn set_step(names: &[usize], table: &[usize], r: usize, values: &[usize], count: usize) -> Step
+fn set_step(
+    names: &[usize],
+    table: &[usize],
+    r: usize,
+    values: &[usize],
+    count: usize,
+) -> Option<u32>
     requires fits { Fits table.now × (r < 18) × (length values.now ≡ 6) × Within (size_in table.now) values.now }
     requires by_index { (question : List ℕ) × Names question names.now }
-    ensures { (told result.there result.number ≡ set_number names.now table.now values.now count r) × (result.number < 2 ^ 32) }
+    ensures { told result ≡ set_number names.now table.now values.now count r }
 {
     let arity = names[3 * r + 2];
     let line = problem_table::relation_line(table, r);
@@ -511,10 +436,10 @@ fn set_step(names: &[usize], table: &[usize], r: usize, values: &[usize], count:
 }
 
 // The step of a node at values of its free variables: of so many in each row, the one of number `choice`. There are `more` values.
-fn node_step(table: &[usize], v: usize, values: &[usize], count: usize, c: Choice) -> Step
+fn node_step(table: &[usize], v: usize, values: &[usize], count: usize, c: Choice) -> Option<u32>
     requires fits { Fits table.now × (v < 64) × (length values.now ≡ 6) × Within (size_in table.now) values.now }
     requires each_bound { (c.each ≤ 64) × (c.choice ≤ 2 ^ 32) × (c.more ≤ 2) }
-    ensures { (told result.there result.number ≡ node_number table.now values.now count v c.each c.choice c.more) × (result.number < 2 ^ 32) }
+    ensures { told result ≡ node_number table.now values.now count v c.each c.choice c.more }
 {
     let line = problem_table::node_line(table, v);
     let width = line.width;
@@ -523,14 +448,14 @@ fn node_step(table: &[usize], v: usize, values: &[usize], count: usize, c: Choic
 }
 
 // The step of a `forall` at an element after the first, the two elements being the last values.
-fn next_step(table: &[usize], v: usize, values: &[usize], count: usize) -> Step
+fn next_step(table: &[usize], v: usize, values: &[usize], count: usize) -> Option<u32>
     requires { Fits table.now × (v < 64) × (length values.now ≡ 6) × Within (size_in table.now) values.now }
-    ensures { (told result.there result.number ≡ next_number table.now values.now count v) × (result.number < 2 ^ 32) }
+    ensures { told result ≡ next_number table.now values.now count v }
 {
     let width = problem_table::node_line(table, v).width;
     let z = values[width + 1];
     if z != values[width] + 1 {
-        return no_step();
+        return None;
     }
     node_step(
         table,
@@ -546,9 +471,9 @@ fn next_step(table: &[usize], v: usize, values: &[usize], count: usize) -> Step
 }
 
 // The step of an `exists`, its element being the last value.
-fn exists_step(table: &[usize], v: usize, values: &[usize], count: usize) -> Step
+fn exists_step(table: &[usize], v: usize, values: &[usize], count: usize) -> Option<u32>
     requires { Fits table.now × (v < 64) × (length values.now ≡ 6) × Within (size_in table.now) values.now }
-    ensures { (told result.there result.number ≡ exists_number table.now values.now count v) × (result.number < 2 ^ 32) }
+    ensures { told result ≡ exists_number table.now values.now count v }
 {
     let width = problem_table::node_line(table, v).width;
     let x = values[width];
@@ -566,10 +491,10 @@ fn exists_step(table: &[usize], v: usize, values: &[usize], count: usize) -> Ste
 }
 
 // The step of an `or` with a part.
-fn or_step(table: &[usize], v: usize, i: usize, values: &[usize], count: usize) -> Step
+fn or_step(table: &[usize], v: usize, i: usize, values: &[usize], count: usize) -> Option<u32>
     requires fits { Fits table.now × (v < 64) × (length values.now ≡ 6) × Within (size_in table.now) values.now }
     requires i_bound { i ≤ 2 ^ 32 }
-    ensures { (told result.there result.number ≡ or_number table.now values.now count v i) × (result.number < 2 ^ 32) }
+    ensures { told result ≡ or_number table.now values.now count v i }
 {
     let many = problem_table::node_line(table, v).many;
     node_step(
@@ -586,26 +511,26 @@ fn or_step(table: &[usize], v: usize, i: usize, values: &[usize], count: usize) 
 }
 
 // The step that begins the proof, and the one that proves the goal.
-fn begin_step(table: &[usize], count: usize) -> Step
+fn begin_step(table: &[usize], count: usize) -> Option<u32>
     requires { Fits table.now }
-    ensures { (told result.there result.number ≡ sized count 0 (relation_line table.now (relations_in table.now)).sets) × (result.number < 2 ^ 32) }
+    ensures { told result ≡ sized count 0 (relation_line table.now (relations_in table.now)).sets }
 {
     let line = problem_table::relation_line(table, table[1]);
     step_if(count, 0, line.sets)
 }
 
-fn goal_step(table: &[usize], count: usize) -> Step
+fn goal_step(table: &[usize], count: usize) -> Option<u32>
     requires { Fits table.now }
-    ensures { (told result.there result.number ≡ sized count 0 (node_line table.now (nodes_in table.now)).acts) × (result.number < 2 ^ 32) }
+    ensures { told result ≡ sized count 0 (node_line table.now (nodes_in table.now)).acts }
 {
     let line = problem_table::node_line(table, table[2]);
     step_if(count, 0, line.acts)
 }
 
 // The step of an `and`, and that of a `forall` at the first element.
-fn and_step(table: &[usize], v: usize, values: &[usize], count: usize) -> Step
+fn and_step(table: &[usize], v: usize, values: &[usize], count: usize) -> Option<u32>
     requires { Fits table.now × (v < 64) × (length values.now ≡ 6) × Within (size_in table.now) values.now }
-    ensures { (told result.there result.number ≡ node_number table.now values.now count v 1 0 0) × (result.number < 2 ^ 32) }
+    ensures { told result ≡ node_number table.now values.now count v 1 0 0 }
 {
     let c = Choice {
         each: 1,
@@ -615,9 +540,9 @@ fn and_step(table: &[usize], v: usize, values: &[usize], count: usize) -> Step
     node_step(table, v, values, count, c)
 }
 
-fn first_step(table: &[usize], v: usize, values: &[usize], count: usize) -> Step
+fn first_step(table: &[usize], v: usize, values: &[usize], count: usize) -> Option<u32>
     requires { Fits table.now × (v < 64) × (length values.now ≡ 6) × Within (size_in table.now) values.now }
-    ensures { (told result.there result.number ≡ node_number table.now values.now count v (size_in table.now) 0 0) × (result.number < 2 ^ 32) }
+    ensures { told result ≡ node_number table.now values.now count v (size_in table.now) 0 0 }
 {
     let c = Choice {
         each: table[0],
@@ -628,10 +553,10 @@ fn first_step(table: &[usize], v: usize, values: &[usize], count: usize) -> Step
 }
 
 // The step of a name and objects.
-fn action(names: &[usize], table: &[usize], k: Name, values: &[usize], count: usize) -> Step
+fn action(names: &[usize], table: &[usize], k: Name, values: &[usize], count: usize) -> Option<u32>
     requires fits { Fits table.now × NameFits k × (length values.now ≡ 6) × Within (size_in table.now) values.now }
     requires by_index { (question : List ℕ) × Names question names.now }
-    ensures { (told result.there result.number ≡ number_by names.now table.now k values.now count) × (result.number < 2 ^ 32) }
+    ensures { told result ≡ number_by names.now table.now k values.now count }
 {
     match k {
         Name::Set(r) => set_step(names, table, r, values, count),
@@ -642,7 +567,7 @@ fn action(names: &[usize], table: &[usize], k: Name, values: &[usize], count: us
         Name::First(v) => first_step(table, v, values, count),
         Name::Next(v) => next_step(table, v, values, count),
         Name::Or(v, i) => or_step(table, v, i, values, count),
-        Name::Nobody => no_step(),
+        Name::Nobody => None,
     }
 }
 
@@ -654,17 +579,17 @@ fn line_step(
     s: &[u8],
     a: usize,
     e: usize,
-) -> Step
+) -> Option<u32>
     requires posed { (c : Case) × Posed c question.now names.now table.now }
     requires a_le_e { (a ≤ e) × (e ≤ length s.now) × (e < 2 ^ 31) }
-    ensures { ((c : Case) → Posed c question.now names.now table.now → told result.there result.number ≡ step_from c (problem_of c) (split 32 (folded (slice a e s.now)))) × (result.number < 2 ^ 32) }
+    ensures { (c : Case) → Posed c question.now names.now table.now → told result ≡ step_from c (problem_of c) (split 32 (folded (slice a e s.now))) }
 {
     let t = read_text::find(s, a, e, 32);
     let k = name(question, names, table, s, a, t);
     let mut values = [0usize; 6];
     let count = objects(s, t, e, table[0], &mut values);
     if count == MANY {
-        return no_step();
+        return None;
     }
     action(names, table, k, &values, count)
 }
@@ -678,33 +603,31 @@ fn put(out: &mut [u32], i: usize, x: u32)
     }
 }
 
-// The steps of lines that are formed, each into the lent numbers where there is room; 22 and where a line begins that is no step.
-pub fn steps(question: &[u8], names: &[usize], table: &[usize], s: &[u8], out: &mut [u32]) -> Ended
+// The steps of lines that are formed, each into the lent numbers where there is room, and how many they are; refused where a line
+// begins that is no step.
+pub fn steps(
+    question: &[u8],
+    names: &[usize],
+    table: &[usize],
+    s: &[u8],
+    out: &mut [u32],
+) -> Result<usize, Refusal>
     requires posed { (c : Case) × Posed c question.now names.now table.now }
     requires s_value { (ls : List PlanLine) × (read_plan_lines s.now ≡ accepted ls) }
-    ensures { StepsEnd question.now names.now table.now s.now result.fault result.place result.count out.old out.new }
+    ensures { StepsEnd question.now names.now table.now s.now result out.old out.new }
 {
     let n = s.len();
     let mut at: usize = 0;
     let mut count: usize = 0;
+    // no count: the next line begins where this one ended
     while at < n {
         let e = read_text::find(s, at, n, 10);
-        let k = line_step(question, names, table, s, at + 1, e - 1);
-        if k.there {
-            put(out, count, k.number as u32);
-            count += 1;
-            at = e + 1;
-        } else {
-            return Ended {
-                fault: 22,
-                place: at,
-                count,
-            };
-        }
+        let Some(k) = line_step(question, names, table, s, at + 1, e - 1) else {
+            return Err(Cause::BeyondPddl.at(at));
+        };
+        put(out, count, k);
+        count += 1;
+        at = e + 1;
     }
-    Ended {
-        fault: 0,
-        place: 0,
-        count,
-    }
+    Ok(count)
 }

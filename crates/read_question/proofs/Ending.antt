@@ -1,13 +1,15 @@
 -- The rule's verdict, and the lines after the rule.
-use Rattle.std.specs.Prelude.{if◌then◌else◌}
+use Rattle.read_rule.specs.Seen.{fault_in}
+use Rattle.std.specs.Prelude.{if◌then◌else◌, Ok, Err}
+use Rattle.std.specs.Prelude as P
 use Prim.Native.Nat.{ℕ, zero, suc, ◌+◌, ◌-◌, ◌≤◌}
-use mathlib.Core.Path.{◌≡◌, refl, sym, ap, subst, ◌∙◌}
+use mathlib.Core.Path.{◌≡◌, refl, sym, ap, ◌∙◌}
 use mathlib.Core.Bool.{Bool, true, false, not, ◌||◌}
 use mathlib.Core.Option.{Option, none, some}
 use mathlib.Core.List.{List, []}
 use native.Mathlib.Omega.{arith}
 use lib.Dec.{ltb}
-use lib.ListN.{length, take, drop}
+use lib.ListN.{length}
 use lib.Seq.{slice, length-slice}
 use Rattle.definitions.specs.Lists.{is_empty, is_some, option}
 use Rattle.definitions.specs.Refusal.{Result, refused, accepted, ◌>>=◌, refuse_if, given}
@@ -15,19 +17,22 @@ use Rattle.definitions.specs.Sheet.Formula.{Formula, all_forms, nesting, is_know
 use Rattle.definitions.specs.Sheet.Parsing.{read_formula}
 use Rattle.definitions.specs.Sheet.Sheets as D
 use Rattle.definitions.specs.Reply.Outcome.{span_of, rule_part}
+use Rattle.refusal.specs.declared.Cause.{Cause}
+use Rattle.refusal.specs.declared.Cause.TheVariants.{TooManyForms, Unknown, BadVariable, BadType}
+use Rattle.refusal.specs.declared.Refusal.{Refusal}
+use Rattle.refusal.specs.Numbers.{number_of}
 use Rattle.read_line.specs.Lines.{read_at}
 use Rattle.read_line.specs.Entries.{entry_in, Reads}
 use Rattle.read_line.specs.declared.Entry.{Entry}
 use Rattle.read_line.specs.declared.Entry.TheVariants.{Wrong, Rel, Typed, Choose, Every, Rule, Size, Label, Member, Fact, Pick, Step}
 use Rattle.read_line.proofs.Runs.{read_stop, read_next}
 use Rattle.read_names.specs.declared.Signature.{Signature}
-use Rattle.read_names.specs.Signatures.{relations_from, rels_of, chosen_of, every_of, types_of, all_of, NoFurther, SoundSignature}
+use Rattle.read_names.specs.Signatures.{relations_from, rels_of, chosen_of, every_of, types_of, all_of, NoFurther}
 use Rattle.read_rule.specs.Seen.{rule_number}
 use Rattle.read_question.specs.declared.Head.{Head}
 use Rattle.read_question.specs.declared.Asked.{Asked}
-use Rattle.read_question.specs.Drafts.{draft_of, whole, Reached, HeadBy, Headed, verdict_in, refused_with, QuestionRead, later_of}
-use Rattle.read_question.proofs.Tests.{unless, untested, test, unless_good, unless_bad}
-use Rattle.read_question.proofs.Growing.{none_sound}
+use Rattle.read_question.specs.Drafts.{draft_of, whole, Reached, verdict_in, QuestionRead, later_of}
+use Rattle.read_question.proofs.Tests.{unless, untested, test, unless_none, unless_numbered}
 
 -- ---- the rule's line by its verdict
 
@@ -41,13 +46,32 @@ module _ (s : List ℕ) (g : Signature) where
   unfolding chosen_of
   not_empty h = some_chosen g.rels g.chosen h
 
-  abbrev verdict_on : Formula → ℕ
+  abbrev verdict_on : Formula → P.Result (Unit {0}) Cause
   verdict_on f =
+      if ltb 64 (all_forms (chosen_of s g) f) || ltb 4 (nesting f) then Err TooManyForms
+      else if not (is_known (all_of s g) f) then Err Unknown
+      else if not (is_scoped [] f) then Err BadVariable
+      else if not (is_typed (types_of s g) f) then Err BadType
+      else Ok tt
+
+  abbrev number_on : Formula → ℕ
+  number_on f =
       if ltb 64 (all_forms (chosen_of s g) f) || ltb 4 (nesting f) then 6
       else if not (is_known (all_of s g) f) then 7
       else if not (is_scoped [] f) then 8
       else if not (is_typed (types_of s g) f) then 19
       else 0
+
+  number_is : (f : Formula) → fault_in (verdict_on f) ≡ number_on f
+  number_is f = by_tests (ltb 64 (all_forms (chosen_of s g) f) || ltb 4 (nesting f)) (not (is_known (all_of s g) f)) (not (is_scoped [] f)) (not (is_typed (types_of s g) f))
+    where
+      by_tests : (a b c d : Bool) → fault_in (if a then Err TooManyForms else if b then Err Unknown else if c then Err BadVariable else if d then Err BadType else Ok tt)
+          ≡ (if a then 6 else if b then 7 else if c then 8 else if d then 19 else 0)
+      by_tests true b c d = refl
+      by_tests false true c d = refl
+      by_tests false false true d = refl
+      by_tests false false false true = refl
+      by_tests false false false false = refl
 
   module _ (at : ℕ) (text : List ℕ) where
     -- the draft that has the formula as its rule, once its tests are passed
@@ -62,21 +86,21 @@ module _ (s : List ℕ) (g : Signature) where
         (refuse_if (not (is_typed (types_of s g) f)) 19 at >>= λ _. accepted (ruled f))))
 
     tested_is : (f : Formula) → tested f ≡ unless (verdict_on f) at (accepted (ruled f))
-    tested_is f = test at _ 5 _ _ _ (test at _ 6 _ _ _ (test at _ 7 _ _ _ (test at _ 18 _ _ _ (untested at _))))
+    tested_is f = test at _ TooManyForms _ _ _ (test at _ Unknown _ _ _ (test at _ BadVariable _ _ _ (test at _ BadType _ _ _ (untested at _))))
 
     rule_is : 1 ≤ g.chosen → D.add_rule (draft_of s g) at text ≡ (given (read_formula text) 5 at >>= tested)
     unfolding D.add_rule draft_of D.is_ruled refuse_if ◌>>=◌ ruled all_of
     rule_is h = rw (not_empty h)
 
-    formula_bad : (o : Option Formula) (k : ℕ) → option o 5 verdict_on ≡ k → (k ≡ 0 → ⊥) → (given o 5 at >>= tested) ≡ refused k at
+    formula_bad : (o : Option Formula) (c : Cause) → option o 5 number_on ≡ number_of c → (given o 5 at >>= tested) ≡ refused (number_of c) at
     unfolding option given ◌>>=◌
-    formula_bad none k p n = rw (← p)
-    formula_bad (some f) k p n = tested_is f ∙ ap (λ (m : ℕ). unless m at (accepted (ruled f))) p ∙ unless_bad at k _ n
+    formula_bad none c p = ap (λ (k : ℕ). refused k at) p
+    formula_bad (some f) c p = tested_is f ∙ unless_numbered at (verdict_on f) c _ (number_is f ∙ p)
 
-    formula_good : (o : Option Formula) → option o 5 verdict_on ≡ 0 → (f : Formula) × ((given o 5 at >>= tested) ≡ accepted (ruled f)) × (o ≡ some f)
+    formula_good : (o : Option Formula) → option o 5 number_on ≡ 0 → (f : Formula) × ((given o 5 at >>= tested) ≡ accepted (ruled f)) × (o ≡ some f)
     unfolding option given ◌>>=◌
     formula_good none p = absurd (omega arith)
-    formula_good (some f) p = (f, tested_is f ∙ unless_good at _ _ p, refl)
+    formula_good (some f) p = (f, tested_is f ∙ unless_none at (verdict_on f) _ (number_is f ∙ p), refl)
 
 -- ---- lines after the rule
 
@@ -90,7 +114,7 @@ module _ (s : List ℕ) (g : Signature) (p : ℕ) (text : List ℕ) (f : Formula
   late_rel true c r = refl
   late_rel false c r = refl
 
-  later_by : (x : Entry) → (given (entry_in s x) 2 at >>= D.add_to_question (ruled s g p text f) at) ≡ refused (later_of x) at
+  later_by : (x : Entry) → (given (entry_in s x) 2 at >>= D.add_to_question (ruled s g p text f) at) ≡ refused (number_of (later_of x)) at
   unfolding given entry_in ◌>>=◌ D.add_to_question later_of D.add_rel D.add_type D.add_choose D.add_every D.add_rule D.is_ruled refuse_if ruled
   later_by (Rel a e k) = rw (not_empty s g h) (late_rel (not (is_empty (types_of s g))) _ _)
   later_by (Typed a e) = rw (not_empty s g h)
@@ -105,89 +129,66 @@ module _ (s : List ℕ) (g : Signature) (p : ℕ) (text : List ℕ) (f : Formula
   later_by (Pick a t e y) = refl
   later_by (Step k) = refl
 
-  later_line : (next : ℕ) (x : Entry) → Reads s at next x → read_at D.add_to_question s at (ruled s g p text f) ≡ refused (later_of x) at
+  later_line : (next : ℕ) (x : Entry) → Reads s at next x → read_at D.add_to_question s at (ruled s g p text f) ≡ refused (number_of (later_of x)) at
   later_line next x l =
       read_next D.add_to_question s at next (ruled s g p text f) x l
       ∙ ap (λ (r : Result D.Draft). r >>= read_at D.add_to_question s next) (later_by x)
-      ∙ refused_stays (later_of x) at (read_at D.add_to_question s next)
+      ∙ refused_stays (number_of (later_of x)) at (read_at D.add_to_question s next)
 
 -- ---- the whole question
 
-reached : (s : List ℕ) (h : Head) → h.fault ≡ 0 → Headed s h → Reached s h
-unfolding Headed HeadBy
-reached s h p w = subst (λ (k : ℕ). HeadBy k s h) p w
+-- the rule's line was reached
+module _ (s : List ℕ) (h : Head) (reached : Reached s h) where
+  -- what the rule's verdict asks, and where the lines after it begin
+  pub rule_in : (h.span.from ≤ h.span.to) × (h.span.to ≤ length s) × (h.sig.rels + h.sig.chosen ≤ 12) × (h.sig.every ≤ 1) × (h.sig.types ≤ 8) × NoFurther h.sig.to h.sig.types
+  unfolding Reached
+  rule_in = let r = reached in (r.3, r.4, omega (arith, r.0.rels_le, r.0.chosen_le), r.0.every_le, r.0.types_le, r.0.no_further)
 
-refused_by : (s : List ℕ) (h : Head) (k : ℕ) → (k ≡ 0 → ⊥) → HeadBy k s h → D.read_question s ≡ refused k h.place
-unfolding HeadBy
-refused_by s h zero n w = absurd (n refl)
-refused_by s h (suc k) n w = w
+  pub next_in : h.next ≤ length s
+  unfolding Reached
+  next_in = (reached).5
 
-read_refused : (s : List ℕ) (k place : ℕ) (r : Asked) → D.read_question s ≡ refused k place → r ≡ refused_with k place → QuestionRead s (D.read_question s) r
-unfolding QuestionRead
-read_refused s k place r p e = rw p e
+  abbrev text : List ℕ
+  text = slice h.span.from h.span.to s
 
-module _ (s : List ℕ) (h : Head) (w : Headed s h) where
-  pub end_fault : (h.fault ≡ 0 → ⊥) → (r : Asked) → r ≡ refused_with h.fault h.place → QuestionRead s (D.read_question s) r
-  unfolding Headed
-  end_fault n r e = read_refused s h.fault h.place r (refused_by s h h.fault n w) e
+  -- reading goes on from what the rule's line gives
+  goes_on : (r : Result D.Draft) → (given (read_formula text) 5 h.place >>= tested s h.sig h.place text) ≡ r
+      → D.read_question s ≡ ((r >>= read_at D.add_to_question s h.next) >>= whole s)
+  unfolding Reached
+  goes_on r e =
+      let t = reached in
+      t.6 ∙ ap (λ (y : Result D.Draft). (y >>= read_at D.add_to_question s h.next) >>= whole s) (rule_is s h.sig h.place text t.1 ∙ e)
 
-  module _ (z : h.fault ≡ 0) where
-    -- what the rule's verdict asks, and where the lines after it begin
-    pub rule_in : (h.span.from ≤ h.span.to) × (h.span.to ≤ length s) × (h.sig.rels + h.sig.chosen ≤ 12) × (h.sig.every ≤ 1) × (h.sig.types ≤ 8) × NoFurther h.sig.to h.sig.types
-    unfolding Reached
-    rule_in = let r = reached s h z w in (r.3, r.4, omega (arith, r.0.rels_le, r.0.chosen_le), r.0.every_le, r.0.types_le, r.0.no_further)
+  pub end_verdict : (c : Cause) → number_of c ≡ verdict_in s h → QuestionRead s (D.read_question s) (Err (record { cause = c; place = h.place }))
+  unfolding ◌>>=◌ rule_number
+  end_verdict c p = goes_on (refused (number_of c) h.place) (formula_bad s h.sig h.place text (read_formula text) c (sym p))
 
-    pub next_in : h.next ≤ length s
-    unfolding Reached
-    next_in = (reached s h z w).5
+  module _ (fine : 0 ≡ verdict_in s h) where
+    -- the rule is good: what is left are the lines after it
+    unfoldable Good : Formula → Type 0
+    Good f = (D.read_question s ≡ (read_at D.add_to_question s h.next (ruled s h.sig h.place text f) >>= whole s)) × (read_formula text ≡ some f)
 
-    abbrev text : List ℕ
-    text = slice h.span.from h.span.to s
+    good : (f : Formula) × Good f
+    unfolding Good ◌>>=◌ rule_number
+    good =
+        let a = formula_good s h.sig h.place text (read_formula text) (sym fine) in
+        (a.0, (goes_on (accepted (ruled s h.sig h.place text a.0)) a.1, a.2))
 
-    module _ (v : ℕ) (p : v ≡ verdict_in s h) where
-      verdict_is : option (read_formula text) 5 (verdict_on s h.sig) ≡ v
-      unfolding rule_number
-      verdict_is = sym p
+    pub end_later : (next : ℕ) (x : Entry) → Reads s h.next next x → (c : Cause) → c ≡ later_of x → QuestionRead s (D.read_question s) (Err (record { cause = c; place = h.next }))
+    unfolding Reached Good ◌>>=◌
+    end_later next x l c e =
+        let a = good in
+        let t = reached in
+        a.1.0 ∙ ap (λ (y : Result D.Draft). y >>= whole s) (later_line s h.sig h.place text a.0 t.1 h.next next x l) ∙ ap (λ (k : Cause). refused (number_of k) h.next) (sym e)
 
-      -- reading goes on from what the rule's line gives
-      goes_on : (r : Result D.Draft) → (given (read_formula text) 5 h.place >>= tested s h.sig h.place text) ≡ r
-          → D.read_question s ≡ ((r >>= read_at D.add_to_question s h.next) >>= whole s)
-      unfolding Reached
-      goes_on r e =
-          let t = reached s h z w in
-          t.6 ∙ ap (λ (y : Result D.Draft). (y >>= read_at D.add_to_question s h.next) >>= whole s) (rule_is s h.sig h.place text t.1 ∙ e)
-
-      pub end_verdict : (v ≡ 0 → ⊥) → (r : Asked) → r ≡ refused_with v h.place → QuestionRead s (D.read_question s) r
-      unfolding ◌>>=◌
-      end_verdict n r e = read_refused s v h.place r (goes_on (refused v h.place) (formula_bad s h.sig h.place text (read_formula text) v verdict_is n)) e
-
-      -- the rule is good: what is left are the lines after it
-      unfoldable Good : Formula → Type 0
-      Good f = (D.read_question s ≡ (read_at D.add_to_question s h.next (ruled s h.sig h.place text f) >>= whole s)) × (read_formula text ≡ some f)
-
-      good : v ≡ 0 → (f : Formula) × Good f
-      unfolding Good ◌>>=◌
-      good n =
-          let a = formula_good s h.sig h.place text (read_formula text) (verdict_is ∙ n) in
-          (a.0, (goes_on (accepted (ruled s h.sig h.place text a.0)) a.1, a.2))
-
-      pub end_later : v ≡ 0 → (next : ℕ) (x : Entry) → Reads s h.next next x → (r : Asked) → r ≡ refused_with (later_of x) h.next → QuestionRead s (D.read_question s) r
-      unfolding Reached Good ◌>>=◌
-      end_later n next x l r e =
-          let a = good n in
-          let t = reached s h z w in
-          read_refused s (later_of x) h.next r
-          (a.1.0 ∙ ap (λ (y : Result D.Draft). y >>= whole s) (later_line s h.sig h.place text a.0 t.1 h.next next x l)) e
-
-      pub end_accepted : v ≡ 0 → h.next ≡ length s → QuestionRead s (D.read_question s) (record { fault = 0; place = 0; sig = h.sig; rule = h.span })
-      unfolding Reached Good QuestionRead whole ruled given ◌>>=◌
-      end_accepted n e =
-          let a = good n in
-          let t = reached s h z w in
-          rw (a.1.0 ∙ ap (λ (y : Result D.Draft). y >>= whole s) (read_stop D.add_to_question s h.next (ruled s h.sig h.place text a.0) e))
-          (record {
-            no_fault = refl;
-            no_place = refl;
+    pub end_accepted : h.next ≡ length s → QuestionRead s (D.read_question s) (Ok (record { sig = h.sig; rule = h.span }))
+    unfolding Reached Good whole ruled given ◌>>=◌
+    end_accepted e =
+        let a = good in
+        let t = reached in (
+          _,
+          a.1.0 ∙ ap (λ (y : Result D.Draft). y >>= whole s) (read_stop D.add_to_question s h.next (ruled s h.sig h.place text a.0) e),
+          record {
             sound = t.0;
             some_chosen = t.1;
             rels = refl;
@@ -199,45 +200,16 @@ module _ (s : List ℕ) (h : Head) (w : Headed s h) where
             rule_from = t.3;
             rule_to = t.4;
             formula = a.1.1;
-          })
+          },
+        )
 
--- ---- the rule's part
+-- ---- the rule's part: that of a question that is read, else an empty one at 0
 
-part_in_by : (s : List ℕ) (o : Result D.Question) (r : Asked) → QuestionRead s o r → (r.rule.from ≤ r.rule.to) × (r.rule.to ≤ length s)
-unfolding QuestionRead refused_with
-part_in_by s (refused k place) r w = rw w (omega arith, omega arith)
-part_in_by s (accepted q) r w = (w.rule_from, w.rule_to)
+pub part_read : (s : List ℕ) (r : Asked) → QuestionRead s (D.read_question s) (Ok r)
+    → (r.rule.from ≤ r.rule.to) × (r.rule.to ≤ length s) × (r.rule.from ≡ (rule_part s).start) × (r.rule.to - r.rule.from ≡ (rule_part s).len)
+unfolding rule_part span_of
+part_read s r (q, e, w) = (w.rule_from, w.rule_to, rw e (sym w.rule_at), rw e (sym (ap length w.rule_text ∙ length-slice r.rule.from r.rule.to s w.rule_to)))
 
-pub part_in : (s : List ℕ) (r : Asked) → QuestionRead s (D.read_question s) r → (r.rule.from ≤ r.rule.to) × (r.rule.to ≤ length s)
-part_in s r w = part_in_by s (D.read_question s) r w
-
-part_by : (s : List ℕ) (o : Result D.Question) (r : Asked) → QuestionRead s o r → take (r.rule.to - r.rule.from) (drop r.rule.from s) ≡ take (span_of o).len (drop (span_of o).start s)
-unfolding QuestionRead refused_with span_of
-part_by s (refused k place) r w = rw w
-part_by s (accepted q) r w =
-    let z : length q.rule.text ≡ r.rule.to - r.rule.from = ap length w.rule_text ∙ length-slice r.rule.from r.rule.to s w.rule_to in
-    rw (z, w.rule_at)
-
-pub part_is : (s : List ℕ) (r : Asked) → QuestionRead s (D.read_question s) r → take (r.rule.to - r.rule.from) (drop r.rule.from s) ≡ take (rule_part s).len (drop (rule_part s).start s)
-unfolding rule_part
-part_is s r w = part_by s (D.read_question s) r w
-
--- and it starts where the definition says
-start_by : (s : List ℕ) (o : Result D.Question) (r : Asked) → QuestionRead s o r → r.rule.from ≡ (span_of o).start
-unfolding QuestionRead refused_with span_of
-start_by s (refused k place) r w = rw w refl
-start_by s (accepted q) r w = sym w.rule_at
-
-pub part_start : (s : List ℕ) (r : Asked) → QuestionRead s (D.read_question s) r → r.rule.from ≡ (rule_part s).start
-unfolding rule_part
-part_start s r w = start_by s (D.read_question s) r w
-
--- ---- the signature is sound, whether the question is refused or not
-
-sound_by : (s : List ℕ) (o : Result D.Question) (r : Asked) → QuestionRead s o r → SoundSignature s r.sig
-unfolding QuestionRead refused_with
-sound_by s (refused k place) r w = rw w (none_sound s)
-sound_by s (accepted q) r w = w.sound
-
-pub question_sound : (s : List ℕ) (r : Asked) → QuestionRead s (D.read_question s) r → SoundSignature s r.sig
-question_sound s r w = sound_by s (D.read_question s) r w
+pub part_none : (s : List ℕ) (e : Refusal) → QuestionRead s (D.read_question s) (Err e) → (0 ≡ (rule_part s).start) × (0 ≡ (rule_part s).len)
+unfolding rule_part span_of
+part_none s e w = (rw w refl, rw w refl)

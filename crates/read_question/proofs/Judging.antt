@@ -1,9 +1,11 @@
 -- What a line before the rule gets.
-use Rattle.std.specs.Prelude.{if◌then◌else◌}
+use Rattle.std.specs.Prelude.{if◌then◌else◌, Some, None, Ok, Err}
+use Rattle.std.specs.Prelude as P
 use Prim.Native.Nat.{ℕ, zero, suc, ◌+◌, ◌≤◌, ◌<◌}
 use mathlib.Core.Path.{◌≡◌, refl, sym, ap, subst, ◌∙◌}
 use mathlib.Core.Bool.{Bool, true, false, not, ◌&&◌, ◌||◌}
 use mathlib.Core.Option.{Option, none, some}
+use mathlib.Core.Logic.{◌⊎◌, inl, inr}
 use mathlib.Core.List.{List, []}
 use native.Mathlib.Numerals.{add-one}
 use native.Mathlib.Omega.{arith}
@@ -16,9 +18,9 @@ use Rattle.definitions.specs.Sheet.Relations.{is_declared}
 use Rattle.definitions.specs.Sheet.Formula.{type_number, sort_named, is_type}
 use Rattle.definitions.specs.Sheet.Sheets as D
 use Rattle.laws.specs.Booleans.{or_both}
-use Rattle.read_text.specs.Spans.{place_of}
-use Rattle.read_text.specs.declared.Found.{Found}
-use Rattle.read_text.specs.declared.Found.TheVariants.{At, Nowhere}
+use Rattle.refusal.specs.declared.Cause.{Cause}
+use Rattle.refusal.specs.declared.Cause.TheVariants.{NoRecord, OutOfOrder, BadName, BadType}
+use Rattle.read_text.specs.Spans.{option_of}
 use Rattle.read_names.specs.Signatures.{types_in, types_of, all_of, Lent}
 use Rattle.read_names.specs.declared.Signature.{Signature}
 use Rattle.read_names.proofs.Laws.{any_found, any_missed, position_some, found_some, found_none, length_names}
@@ -27,18 +29,19 @@ use Rattle.read_line.specs.declared.Entry.{Entry}
 use Rattle.read_line.specs.declared.Entry.TheVariants.{Wrong, Rel, Typed, Choose, Every, Rule, Size, Label, Member, Fact, Pick, Step}
 use Rattle.read_line.proofs.Made.{types_at_lem}
 use Rattle.read_question.specs.declared.Sorts.{Sorts}
-use Rattle.read_question.specs.Drafts.{draft_of, is_late, is_closed, name_fault, type_fault, choose_fault, every_fault, judge_of, Room, sorts_in, pushed, typed, grown_by, span_in, later_of}
+use Rattle.read_question.specs.Drafts.{draft_of, is_late, is_closed, name_fault, type_fault, choose_fault, every_fault, judge_of, Room, sorts_in, pushed, typed, grown_by, later_of}
 
 -- ---- too late
 
 module _ (types chosen own : ℕ) where
-  pub late_types : (types ≡ 0 → ⊥) → true ≡ is_late types chosen own
+  pub late_types : (types ≡ 0 → ⊥) → not (eqb types 0) ≡ is_late types chosen own
   unfolding is_late
   late_types h = rw (ne_eqb types 0 h)
 
-  pub late_chosen : types ≡ 0 → (chosen ≡ 0 → ⊥) → true ≡ is_late types chosen own
+  pub late_chosen : types ≡ 0 → ((types ≡ 0 → ⊥) ⊎ ((types ≡ 0) × (chosen ≡ 0 → ⊥))) → not (eqb chosen 0) ≡ is_late types chosen own
   unfolding is_late
-  late_chosen t h = rw (eq-eqb types 0 t, ne_eqb chosen 0 h)
+  late_chosen t (inl n) = absurd (n t)
+  late_chosen t (inr h) = rw (eq-eqb types 0 t, ne_eqb chosen 0 h.1)
 
   pub late_own : types ≡ 0 → chosen ≡ 0 → leb 8 own ≡ is_late types chosen own
   unfolding is_late
@@ -53,7 +56,7 @@ module _ (types chosen own : ℕ) where
 
 -- no `choose` line may follow
 module _ (every chosen : ℕ) where
-  pub closed_every : (every ≡ 0 → ⊥) → true ≡ is_closed every chosen
+  pub closed_every : (every ≡ 0 → ⊥) → not (eqb every 0) ≡ is_closed every chosen
   unfolding is_closed
   closed_every h = rw (ne_eqb every 0 h)
 
@@ -72,30 +75,30 @@ pub own_arrays : (g : Signature) → g.every ≤ 1 → Lent g g.from g.to (g.rel
 own_arrays g one = record { from_is = refl; to_is = refl; count = refl; one = one }
 
 module _ (s : List ℕ) (g : Signature) (name : List ℕ) where
-  pub name_malformed : is_relation_name name ≡ false → 4 ≡ name_fault s g name
+  pub name_malformed : is_relation_name name ≡ false → Err BadName ≡ name_fault s g name
   unfolding name_fault D.is_new_name
   name_malformed p = rw p
 
   module _ (p : is_relation_name name ≡ true) where
-    pub name_declared : is_declared (all_of s g) name ≡ true → 4 ≡ name_fault s g name
+    pub name_declared : is_declared (all_of s g) name ≡ true → Err BadName ≡ name_fault s g name
     unfolding name_fault D.is_new_name draft_of all_of
     name_declared q = rw (p, q)
 
-    pub name_new : is_declared (all_of s g) name ≡ false → 0 ≡ name_fault s g name
+    pub name_new : is_declared (all_of s g) name ≡ false → Ok tt ≡ name_fault s g name
     unfolding name_fault D.is_new_name draft_of all_of
     name_new q = rw (p, q)
 
 module _ (types : List (List ℕ)) (name : List ℕ) where
-  pub type_malformed : is_relation_name name ≡ false → 4 ≡ type_fault types name
+  pub type_malformed : is_relation_name name ≡ false → Err BadName ≡ type_fault types name
   unfolding type_fault
   type_malformed p = rw p
 
-  module _ (p : is_relation_name name ≡ true) (f : Found) (w : f ≡ place_of (type_number types name)) where
-    pub type_twice : (i : ℕ) → f ≡ At i → 19 ≡ type_fault types name
+  module _ (p : is_relation_name name ≡ true) (f : P.Option ℕ) (w : f ≡ option_of (type_number types name)) where
+    pub type_twice : (i : ℕ) → f ≡ Some i → Err BadType ≡ type_fault types name
     unfolding type_fault is_type type_number
     type_twice i e = rw (p, ← any_found (λ t. same t name) (λ t. same t name) (λ t. refl) types i (found_some _ i f e w))
 
-    pub type_new : f ≡ Nowhere → 0 ≡ type_fault types name
+    pub type_new : f ≡ None → Ok tt ≡ type_fault types name
     unfolding type_fault is_type type_number
     type_new e = rw (p, ← any_missed (λ t. same t name) (λ t. same t name) (λ t. refl) types (found_none _ f e w))
 
@@ -110,16 +113,16 @@ sorted types name = by_option (position (λ t. same t name) types) refl
     by_option none q = sym (any_missed (λ t. same t name) (λ t. same t name) (λ t. refl) types q)
     by_option (some i) q = sym (any_found (λ t. same t name) (λ t. same t name) (λ t. refl) types i q) ∙ rw (ne_eqb (suc i) 0 (λ z. omega arith))
 
-module _ (q F T : List ℕ) (k : ℕ) (name : List ℕ) (f : Found) (w : f ≡ place_of (type_number (types_in q F T k) name)) where
-  pub sort_found : (i : ℕ) → f ≡ At i → i + 1 ≡ sort_named (types_in q F T k) name
+module _ (q F T : List ℕ) (k : ℕ) (name : List ℕ) (f : P.Option ℕ) (w : f ≡ option_of (type_number (types_in q F T k) name)) where
+  pub sort_found : (i : ℕ) → f ≡ Some i → i + 1 ≡ sort_named (types_in q F T k) name
   unfolding sort_named option
   sort_found i e = rw (found_some (type_number (types_in q F T k) name) i f e w) (add-one i)
 
-  pub sort_missed : f ≡ Nowhere → 0 ≡ sort_named (types_in q F T k) name
+  pub sort_missed : f ≡ None → 0 ≡ sort_named (types_in q F T k) name
   unfolding sort_named option
   sort_missed e = rw (found_none (type_number (types_in q F T k) name) f e w)
 
-  pub type_few : (i : ℕ) → f ≡ At i → i < k
+  pub type_few : (i : ℕ) → f ≡ Some i → i < k
   unfolding type_number
   type_few i e = omega (arith, (position_some (λ t. same t name) (types_in q F T k) i [] (found_some (type_number (types_in q F T k) name) i f e w)).0, length_names q F T 13 k)
 
@@ -138,104 +141,95 @@ module _ (s : List ℕ) (types : List (List ℕ)) (t u v : ℕ) where
   all_sorted h p e = rw e (rw (types_at_lem s t u v h) (rw (sorted types (slice t u s), sorted types (slice (u + 1) v s))))
 
 module _ (s : List ℕ) (g : Signature) (name : List ℕ) (t u v : ℕ) where
-  choose_test : Bool → Bool → ℕ
-  choose_test new typed = if not new then 4 else if not typed then 19 else 0
+  choose_test : Bool → Bool → P.Result (Unit {0}) Cause
+  choose_test new typed = if not new then Err BadName else if not typed then Err BadType else Ok tt
 
-  pub choose_name : (r : ℕ) → r ≡ name_fault s g name → (r ≡ 0 → ⊥) → r ≡ choose_fault s g name (types_at s t u v)
+  pub choose_name : (c : Cause) → Err c ≡ name_fault s g name → Err c ≡ choose_fault s g name (types_at s t u v)
   unfolding name_fault choose_fault choose_test
-  choose_name r e h = by_test (D.is_new_name (draft_of s g) name) e
+  choose_name c e = by_test (D.is_new_name (draft_of s g) name) e
     where
-      by_test : (b : Bool) → r ≡ (if not b then 4 else 0) → r ≡ choose_test b (all (is_type (types_of s g)) (types_at s t u v))
-      by_test true q = absurd (h q)
+      by_test : (b : Bool) → ◌≡◌ {A = P.Result (Unit {0}) Cause} (Err c) (if not b then Err BadName else Ok tt) → ◌≡◌ {A = P.Result (Unit {0}) Cause} (Err c) (choose_test b (all (is_type (types_of s g)) (types_at s t u v)))
+      by_test true q = absurd (cc)
       by_test false q = q
 
   -- a new name: its types decide
-  module _ (new : 0 ≡ name_fault s g name) where
-    by_types : (b : Bool) → all (is_type (types_of s g)) (types_at s t u v) ≡ b → (if not b then 19 else 0) ≡ choose_fault s g name (types_at s t u v)
+  module _ (new : Ok tt ≡ name_fault s g name) where
+    by_types : (b : Bool) → all (is_type (types_of s g)) (types_at s t u v) ≡ b → (if not b then Err BadType else Ok tt) ≡ choose_fault s g name (types_at s t u v)
     unfolding name_fault choose_fault choose_test
     by_types b e = rw e (by_test (D.is_new_name (draft_of s g) name) new)
       where
-        by_test : (c : Bool) → ◌≡◌ {A = ℕ} 0 (if not c then 4 else 0) → (if not b then 19 else 0) ≡ choose_test c b
+        by_test : (c : Bool) → ◌≡◌ {A = P.Result (Unit {0}) Cause} (Ok tt) (if not c then Err BadName else Ok tt) → (if not b then Err BadType else Ok tt) ≡ choose_test c b
         by_test true q = refl
-        by_test false q = absurd (omega arith)
+        by_test false q = absurd (cc)
 
-    pub choose_untyped : v ≡ 0 → 0 ≡ choose_fault s g name (types_at s t u v)
+    pub choose_untyped : v ≡ 0 → Ok tt ≡ choose_fault s g name (types_at s t u v)
     unfolding types_at all
     choose_untyped e = by_types true (rw e)
 
     module _ (h : 0 < v) (p : Sorts) (e : p ≡ sorts_in (types_of s g) (types_at s t u v)) where
-      pub choose_first : p.firsts ≡ 0 → 19 ≡ choose_fault s g name (types_at s t u v)
+      pub choose_first : p.firsts ≡ 0 → Err BadType ≡ choose_fault s g name (types_at s t u v)
       choose_first a = by_types false (all_sorted s (types_of s g) t u v h p e ∙ rw (eq-eqb p.firsts 0 a))
 
       module _ (first : p.firsts ≡ 0 → ⊥) where
-        pub choose_second : p.seconds ≡ 0 → 19 ≡ choose_fault s g name (types_at s t u v)
+        pub choose_second : p.seconds ≡ 0 → Err BadType ≡ choose_fault s g name (types_at s t u v)
         choose_second b = by_types false (all_sorted s (types_of s g) t u v h p e ∙ rw (ne_eqb p.firsts 0 first, eq-eqb p.seconds 0 b))
 
-        pub choose_typed : (p.seconds ≡ 0 → ⊥) → 0 ≡ choose_fault s g name (types_at s t u v)
+        pub choose_typed : (p.seconds ≡ 0 → ⊥) → Ok tt ≡ choose_fault s g name (types_at s t u v)
         choose_typed second = by_types true (all_sorted s (types_of s g) t u v h p e ∙ rw (ne_eqb p.firsts 0 first, ne_eqb p.seconds 0 second))
 
 -- ---- the relation of an `every` line
 
 module _ (s : List ℕ) (g : Signature) (name : List ℕ) where
-  pub every_twice : (g.every ≡ 0 → ⊥) → 3 ≡ every_fault s g name
+  pub every_twice : (g.every ≡ 0 → ⊥) → Err OutOfOrder ≡ every_fault s g name
   unfolding every_fault
   every_twice h = rw (ne_eqb g.every 0 h)
 
   module _ (first : g.every ≡ 0) where
-    pub every_early : g.chosen ≡ 0 → 3 ≡ every_fault s g name
+    pub every_early : g.chosen ≡ 0 → Err OutOfOrder ≡ every_fault s g name
     unfolding every_fault
     every_early h = rw (eq-eqb g.every 0 first, eq-eqb g.chosen 0 h)
 
-    pub every_now : (g.chosen ≡ 0 → ⊥) → (r : ℕ) → r ≡ name_fault s g name → r ≡ every_fault s g name
+    pub every_now : (g.chosen ≡ 0 → ⊥) → (r : P.Result (Unit {0}) Cause) → r ≡ name_fault s g name → r ≡ every_fault s g name
     unfolding every_fault
     every_now h r e = rw (eq-eqb g.every 0 first, ne_eqb g.chosen 0 h) e
 
 -- ---- the line
 
 module _ (s : List ℕ) (g : Signature) (x : Entry) where
-  pub judge_wrong : x ≡ Wrong → 2 ≡ judge_of s g x
+  pub judge_wrong : x ≡ Wrong → Err NoRecord ≡ judge_of s g x
   unfolding judge_of
   judge_wrong p = sym (ap (judge_of s g) p)
 
   module _ (a e k : ℕ) (p : x ≡ Rel a e k) where
-    pub rel_late : is_late g.types g.chosen g.rels ≡ true → 3 ≡ judge_of s g x
+    pub rel_late : is_late g.types g.chosen g.rels ≡ true → Err OutOfOrder ≡ judge_of s g x
     unfolding judge_of
     rel_late l = sym (ap (judge_of s g) p ∙ rw l)
 
-    pub rel_here : (r : ℕ) → is_late g.types g.chosen g.rels ≡ false → r ≡ name_fault s g (slice a e s) → r ≡ judge_of s g x
+    pub rel_here : (r : P.Result (Unit {0}) Cause) → is_late g.types g.chosen g.rels ≡ false → r ≡ name_fault s g (slice a e s) → r ≡ judge_of s g x
     unfolding judge_of
     rel_here r l n = n ∙ sym (ap (judge_of s g) p ∙ rw l)
 
   module _ (a e : ℕ) (p : x ≡ Typed a e) where
-    pub type_late : is_late 0 g.chosen g.types ≡ true → 3 ≡ judge_of s g x
+    pub type_late : is_late 0 g.chosen g.types ≡ true → Err OutOfOrder ≡ judge_of s g x
     unfolding judge_of
     type_late l = sym (ap (judge_of s g) p ∙ rw l)
 
-    pub type_here : (r : ℕ) → is_late 0 g.chosen g.types ≡ false → r ≡ type_fault (types_of s g) (slice a e s) → r ≡ judge_of s g x
+    pub type_here : (r : P.Result (Unit {0}) Cause) → is_late 0 g.chosen g.types ≡ false → r ≡ type_fault (types_of s g) (slice a e s) → r ≡ judge_of s g x
     unfolding judge_of
     type_here r l n = n ∙ sym (ap (judge_of s g) p ∙ rw l)
 
   module _ (a e k d t u v : ℕ) (p : x ≡ Choose a e k d t u v) where
-    pub choose_closed : is_closed g.every g.chosen ≡ true → 3 ≡ judge_of s g x
+    pub choose_closed : is_closed g.every g.chosen ≡ true → Err OutOfOrder ≡ judge_of s g x
     unfolding judge_of
     choose_closed l = sym (ap (judge_of s g) p ∙ rw l)
 
-    pub choose_here : (r : ℕ) → is_closed g.every g.chosen ≡ false → r ≡ choose_fault s g (slice a e s) (types_at s t u v) → r ≡ judge_of s g x
+    pub choose_here : (r : P.Result (Unit {0}) Cause) → is_closed g.every g.chosen ≡ false → r ≡ choose_fault s g (slice a e s) (types_at s t u v) → r ≡ judge_of s g x
     unfolding judge_of
     choose_here r l n = n ∙ sym (ap (judge_of s g) p ∙ rw l)
 
-  pub every_here : (a e k r : ℕ) → x ≡ Every a e k → r ≡ every_fault s g (slice a e s) → r ≡ judge_of s g x
+  pub every_here : (a e k : ℕ) (r : P.Result (Unit {0}) Cause) → x ≡ Every a e k → r ≡ every_fault s g (slice a e s) → r ≡ judge_of s g x
   unfolding judge_of
   every_here a e k r p n = n ∙ sym (ap (judge_of s g) p)
-
-  module _ (a e : ℕ) (p : x ≡ Rule a e) where
-    pub rule_early : g.chosen ≡ 0 → 3 ≡ judge_of s g x
-    unfolding judge_of
-    rule_early h = sym (ap (judge_of s g) p ∙ rw (eq-eqb g.chosen 0 h))
-
-    pub rule_now : (g.chosen ≡ 0 → ⊥) → 1 ≡ judge_of s g x
-    unfolding judge_of
-    rule_now h = sym (ap (judge_of s g) p ∙ rw (ne_eqb g.chosen 0 h))
 
 -- ---- the signature after a good line, and the room for it
 
@@ -278,20 +272,20 @@ module _ (s : List ℕ) (g : Signature) {x : Entry} where
 
 -- ---- what is left of an entry when some of its variants are ruled out
 
-pub judge_other : (s : List ℕ) (g : Signature) (x : Entry) → (x ≡ Wrong → ⊥) → ((a e k : ℕ) → x ≡ Rel a e k → ⊥) → ((a e : ℕ) → x ≡ Typed a e → ⊥) → ((a e k d t u v : ℕ) → x ≡ Choose a e k d t u v → ⊥) → ((a e k : ℕ) → x ≡ Every a e k → ⊥) → ((a e : ℕ) → x ≡ Rule a e → ⊥) → 3 ≡ judge_of s g x
+pub judge_other : (s : List ℕ) (g : Signature) (x : Entry) → (x ≡ Wrong → ⊥) → ((a e k : ℕ) → x ≡ Rel a e k → ⊥) → ((a e : ℕ) → x ≡ Typed a e → ⊥) → ((a e k d t u v : ℕ) → x ≡ Choose a e k d t u v → ⊥) → ((a e k : ℕ) → x ≡ Every a e k → ⊥) → Err OutOfOrder ≡ judge_of s g x
 unfolding judge_of
-judge_other s g Wrong w0 w1 w2 w3 w4 w5 = absurd (w0 refl)
-judge_other s g (Rel a e k) w0 w1 w2 w3 w4 w5 = absurd (w1 a e k refl)
-judge_other s g (Typed a e) w0 w1 w2 w3 w4 w5 = absurd (w2 a e refl)
-judge_other s g (Choose a e k d t u v) w0 w1 w2 w3 w4 w5 = absurd (w3 a e k d t u v refl)
-judge_other s g (Every a e k) w0 w1 w2 w3 w4 w5 = absurd (w4 a e k refl)
-judge_other s g (Rule a e) w0 w1 w2 w3 w4 w5 = absurd (w5 a e refl)
-judge_other s g (Size n) w0 w1 w2 w3 w4 w5 = refl
-judge_other s g (Label k a t e) w0 w1 w2 w3 w4 w5 = refl
-judge_other s g (Member a t k e) w0 w1 w2 w3 w4 w5 = refl
-judge_other s g (Fact a t e p) w0 w1 w2 w3 w4 w5 = refl
-judge_other s g (Pick a t e p) w0 w1 w2 w3 w4 w5 = refl
-judge_other s g (Step k) w0 w1 w2 w3 w4 w5 = refl
+judge_other s g Wrong w0 w1 w2 w3 w4 = absurd (w0 refl)
+judge_other s g (Rel a e k) w0 w1 w2 w3 w4 = absurd (w1 a e k refl)
+judge_other s g (Typed a e) w0 w1 w2 w3 w4 = absurd (w2 a e refl)
+judge_other s g (Choose a e k d t u v) w0 w1 w2 w3 w4 = absurd (w3 a e k d t u v refl)
+judge_other s g (Every a e k) w0 w1 w2 w3 w4 = absurd (w4 a e k refl)
+judge_other s g (Rule a e) w0 w1 w2 w3 w4 = refl
+judge_other s g (Size n) w0 w1 w2 w3 w4 = refl
+judge_other s g (Label k a t e) w0 w1 w2 w3 w4 = refl
+judge_other s g (Member a t k e) w0 w1 w2 w3 w4 = refl
+judge_other s g (Fact a t e p) w0 w1 w2 w3 w4 = refl
+judge_other s g (Pick a t e p) w0 w1 w2 w3 w4 = refl
+judge_other s g (Step k) w0 w1 w2 w3 w4 = refl
 
 pub grown_other : (s : List ℕ) (g : Signature) (x : Entry) → ((a e k : ℕ) → x ≡ Rel a e k → ⊥) → ((a e : ℕ) → x ≡ Typed a e → ⊥) → ((a e k d t u v : ℕ) → x ≡ Choose a e k d t u v → ⊥) → ((a e k : ℕ) → x ≡ Every a e k → ⊥) → g ≡ grown_by s g x
 unfolding grown_by
@@ -308,22 +302,7 @@ grown_other s g (Fact a t e p) w0 w1 w2 w3 = refl
 grown_other s g (Pick a t e p) w0 w1 w2 w3 = refl
 grown_other s g (Step k) w0 w1 w2 w3 = refl
 
-pub span_other : (x : Entry) → ((a e : ℕ) → x ≡ Rule a e → ⊥) → record { from = 0; to = 0 } ≡ span_in x
-unfolding span_in
-span_other (Rule a e) w = absurd (w a e refl)
-span_other Wrong w = refl
-span_other (Rel a e k) w = refl
-span_other (Typed a e) w = refl
-span_other (Choose a e k d t u v) w = refl
-span_other (Every a e k) w = refl
-span_other (Size n) w = refl
-span_other (Label k a t e) w = refl
-span_other (Member a t k e) w = refl
-span_other (Fact a t e p) w = refl
-span_other (Pick a t e p) w = refl
-span_other (Step k) w = refl
-
-pub later_other : (x : Entry) → (x ≡ Wrong → ⊥) → 3 ≡ later_of x
+pub later_other : (x : Entry) → (x ≡ Wrong → ⊥) → OutOfOrder ≡ later_of x
 unfolding later_of
 later_other Wrong w = absurd (w refl)
 later_other (Rel a e k) w = refl

@@ -1,5 +1,6 @@
 -- What the reader of the question answers, in the words of the definitions.
-use Rattle.std.specs.Prelude.{ℕ, zero, suc, ◌+◌, ◌≤◌, ◌<◌, ◌≡◌, Bool, not, ◌||◌, List, eqb, leb, length, set, replicate, if◌then◌else◌}
+use Rattle.std.specs.Prelude.{ℕ, ◌+◌, ◌≤◌, ◌<◌, ◌≡◌, Bool, not, ◌||◌, List, eqb, leb, length, set, replicate, if◌then◌else◌, Ok, Err}
+use Rattle.std.specs.Prelude as P
 use Rattle.std.proofs.Math.Option.{none, some}
 use Rattle.std.proofs.Math.Seq.{slice}
 use Rattle.definitions.specs.Lists.{all}
@@ -8,6 +9,10 @@ use Rattle.definitions.specs.Sheet.Formula.{is_type}
 use Rattle.definitions.specs.Refusal.{Result, refused, accepted, ◌>>=◌, given}
 use Rattle.definitions.specs.Sheet.Parsing.{read_formula}
 use Rattle.definitions.specs.Sheet.Sheets as D
+use Rattle.refusal.specs.declared.Cause.{Cause}
+use Rattle.refusal.specs.declared.Cause.TheVariants.{NoRecord, OutOfOrder, BadName, BadType}
+use Rattle.refusal.specs.declared.Refusal.{Refusal}
+use Rattle.refusal.specs.Numbers.{number_of}
 use Rattle.read_line.specs.Lines.{read_at}
 use Rattle.read_line.specs.Entries.{types_at}
 use Rattle.read_line.specs.declared.Entry.{Entry}
@@ -15,7 +20,6 @@ use Rattle.read_line.specs.declared.Entry.TheVariants.{Wrong, Rel, Typed, Choose
 use Rattle.read_names.specs.declared.Signature.{Signature}
 use Rattle.read_names.specs.Signatures.{rels_of, chosen_of, every_of, types_of, all_of, SoundSignature}
 use Rattle.read_rule.specs.Seen.{rule_number}
-use Rattle.read_question.specs.declared.Span.{Span}
 use Rattle.read_question.specs.declared.Sorts.{Sorts}
 use Rattle.read_question.specs.declared.Head.{Head}
 use Rattle.read_question.specs.declared.Asked.{Asked}
@@ -33,34 +37,34 @@ unfoldable pub is_closed : (every chosen : ℕ) → Bool
 is_closed every chosen = not (eqb every 0) || leb 4 chosen
 
 -- what a relation and a type get in their place, by their names
-unfoldable pub name_fault : List ℕ → Signature → List ℕ → ℕ
-name_fault s g name = if not (D.is_new_name (draft_of s g) name) then 4 else 0
+unfoldable pub name_fault : List ℕ → Signature → List ℕ → P.Result (Unit {0}) Cause
+name_fault s g name = if not (D.is_new_name (draft_of s g) name) then Err BadName else Ok tt
 
-unfoldable pub type_fault : List (List ℕ) → List ℕ → ℕ
-type_fault types name = if not (is_relation_name name) then 4 else if is_type types name then 19 else 0
+unfoldable pub type_fault : List (List ℕ) → List ℕ → P.Result (Unit {0}) Cause
+type_fault types name = if not (is_relation_name name) then Err BadName else if is_type types name then Err BadType else Ok tt
 
 -- what a chosen relation gets in its place, by its name and the types that it gives
-unfoldable pub choose_fault : List ℕ → Signature → List ℕ → List (List ℕ) → ℕ
-choose_fault s g name names = if not (D.is_new_name (draft_of s g) name) then 4 else if not (all (is_type (types_of s g)) names) then 19 else 0
+unfoldable pub choose_fault : List ℕ → Signature → List ℕ → List (List ℕ) → P.Result (Unit {0}) Cause
+choose_fault s g name names = if not (D.is_new_name (draft_of s g) name) then Err BadName else if not (all (is_type (types_of s g)) names) then Err BadType else Ok tt
 
 -- what the relation of an `every` line gets
-unfoldable pub every_fault : List ℕ → Signature → List ℕ → ℕ
-every_fault s g name = if not (eqb g.every 0) || eqb g.chosen 0 then 3 else name_fault s g name
+unfoldable pub every_fault : List ℕ → Signature → List ℕ → P.Result (Unit {0}) Cause
+every_fault s g name = if not (eqb g.every 0) || eqb g.chosen 0 then Err OutOfOrder else name_fault s g name
 
--- what a line before the rule gets: 0 for a good relation or type, 1 for a rule in its place, else the refusal's number
-unfoldable pub judge_of : List ℕ → Signature → Entry → ℕ
-judge_of s g Wrong = 2
-judge_of s g (Rel a e k) = if is_late g.types g.chosen g.rels then 3 else name_fault s g (slice a e s)
-judge_of s g (Typed a e) = if is_late 0 g.chosen g.types then 3 else type_fault (types_of s g) (slice a e s)
-judge_of s g (Choose a e k d t u v) = if is_closed g.every g.chosen then 3 else choose_fault s g (slice a e s) (types_at s t u v)
+-- what a line before the rule gets, where the rule itself is none
+unfoldable pub judge_of : List ℕ → Signature → Entry → P.Result (Unit {0}) Cause
+judge_of s g Wrong = Err NoRecord
+judge_of s g (Rel a e k) = if is_late g.types g.chosen g.rels then Err OutOfOrder else name_fault s g (slice a e s)
+judge_of s g (Typed a e) = if is_late 0 g.chosen g.types then Err OutOfOrder else type_fault (types_of s g) (slice a e s)
+judge_of s g (Choose a e k d t u v) = if is_closed g.every g.chosen then Err OutOfOrder else choose_fault s g (slice a e s) (types_at s t u v)
 judge_of s g (Every a e k) = every_fault s g (slice a e s)
-judge_of s g (Rule a e) = if eqb g.chosen 0 then 3 else 1
-judge_of s g (Size n) = 3
-judge_of s g (Label k a t e) = 3
-judge_of s g (Member a t k e) = 3
-judge_of s g (Fact a t e p) = 3
-judge_of s g (Pick a t e p) = 3
-judge_of s g (Step k) = 3
+judge_of s g (Rule a e) = Err OutOfOrder
+judge_of s g (Size n) = Err OutOfOrder
+judge_of s g (Label k a t e) = Err OutOfOrder
+judge_of s g (Member a t k e) = Err OutOfOrder
+judge_of s g (Fact a t e p) = Err OutOfOrder
+judge_of s g (Pick a t e p) = Err OutOfOrder
+judge_of s g (Step k) = Err OutOfOrder
 
 -- there is room for what a line declares, and the second of its types begins inside the text
 unfoldable pub Room : Signature → Entry → Type 0
@@ -125,21 +129,6 @@ grown_by s g (Fact a t e p) = g
 grown_by s g (Pick a t e p) = g
 grown_by s g (Step k) = g
 
--- the span of a rule; none of another line
-unfoldable pub span_in : Entry → Span
-span_in Wrong = record { from = 0; to = 0 }
-span_in (Rel a e k) = record { from = 0; to = 0 }
-span_in (Typed a e) = record { from = 0; to = 0 }
-span_in (Choose a e k d t u v) = record { from = 0; to = 0 }
-span_in (Every a e k) = record { from = 0; to = 0 }
-span_in (Rule a e) = record { from = a; to = e }
-span_in (Size n) = record { from = 0; to = 0 }
-span_in (Label k a t e) = record { from = 0; to = 0 }
-span_in (Member a t k e) = record { from = 0; to = 0 }
-span_in (Fact a t e p) = record { from = 0; to = 0 }
-span_in (Pick a t e p) = record { from = 0; to = 0 }
-span_in (Step k) = record { from = 0; to = 0 }
-
 -- a question is whole once it has its rule
 unfoldable pub whole : List ℕ → D.Draft → Result D.Question
 whole s d = given d.ruled 3 (length s) >>= λ r. accepted (record { rels = d.rels; types = d.types; chosen = d.chosen; every = d.every; rule = r })
@@ -150,18 +139,16 @@ Reached s h =
     SoundSignature s h.sig × (1 ≤ h.sig.chosen) × (h.span.from ≡ h.place + 5) × (h.span.from ≤ h.span.to) × (h.span.to ≤ length s) × (h.next ≤ length s)
     × (D.read_question s ≡ ((D.add_rule (draft_of s h.sig) h.place (slice h.span.from h.span.to s) >>= read_at D.add_to_question s h.next) >>= whole s))
 
-unfoldable pub HeadBy : ℕ → List ℕ → Head → Type 0
-HeadBy zero s h = Reached s h
-HeadBy (suc k) s h = D.read_question s ≡ refused (suc k) h.place
-
-unfoldable pub Headed : List ℕ → Head → Type 0
-Headed s h = HeadBy h.fault s h
+-- what reading up to the rule's line gives
+abbrev pub Headed : List ℕ → P.Result Head Refusal → Type 0
+Headed s (Ok h) = Reached s h
+Headed s (Err e) = D.read_question s ≡ refused (number_of e.cause) e.place
 
 -- the rule's own verdict: 0, 5 to 8, or 19
 abbrev pub verdict_in : List ℕ → Head → ℕ
 verdict_in s h = rule_number (all_of s h.sig) (types_of s h.sig) (chosen_of s h.sig) (slice h.span.from h.span.to s)
 
--- a question that is refused has no relations, no types and an empty rule
+-- no relations and no types
 unfoldable pub no_signature : Signature
 no_signature = record {
   rels = 0;
@@ -176,13 +163,8 @@ no_signature = record {
   seconds = replicate 13 0;
 }
 
-unfoldable pub refused_with : ℕ → ℕ → Asked
-refused_with k place = record { fault = k; place = place; sig = no_signature; rule = record { from = 0; to = 0 } }
-
 -- a question that is accepted: its relations and types are the signature's, and its rule is that span of the text
 pub record Accepts (s : List ℕ) (q : D.Question) (r : Asked) : Type 0 where
-  pub no_fault : r.fault ≡ 0
-  pub no_place : r.place ≡ 0
   pub sound : SoundSignature s r.sig
   pub some_chosen : 1 ≤ r.sig.chosen
   pub rels : q.rels ≡ rels_of s r.sig
@@ -195,22 +177,22 @@ pub record Accepts (s : List ℕ) (q : D.Question) (r : Asked) : Type 0 where
   pub rule_to : r.rule.to ≤ length s
   pub formula : read_formula (slice r.rule.from r.rule.to s) ≡ some q.rule.formula
 
--- what the reader answers, by what the definitions read
-unfoldable pub QuestionRead : List ℕ → Result D.Question → Asked → Type 0
-QuestionRead s (refused k place) r = r ≡ refused_with k place
-QuestionRead s (accepted q) r = Accepts s q r
+-- what the reader answers tells what the definitions read
+abbrev pub QuestionRead : List ℕ → Result D.Question → P.Result Asked Refusal → Type 0
+QuestionRead s x (Ok r) = (q : D.Question) × (x ≡ accepted q) × Accepts s q r
+QuestionRead s x (Err e) = x ≡ refused (number_of e.cause) e.place
 
 -- what a line after the rule gets
-unfoldable pub later_of : Entry → ℕ
-later_of Wrong = 2
-later_of (Rel a e k) = 3
-later_of (Typed a e) = 3
-later_of (Choose a e k d t u v) = 3
-later_of (Every a e k) = 3
-later_of (Rule a e) = 3
-later_of (Size n) = 3
-later_of (Label k a t e) = 3
-later_of (Member a t k e) = 3
-later_of (Fact a t e p) = 3
-later_of (Pick a t e p) = 3
-later_of (Step k) = 3
+unfoldable pub later_of : Entry → Cause
+later_of Wrong = NoRecord
+later_of (Rel a e k) = OutOfOrder
+later_of (Typed a e) = OutOfOrder
+later_of (Choose a e k d t u v) = OutOfOrder
+later_of (Every a e k) = OutOfOrder
+later_of (Rule a e) = OutOfOrder
+later_of (Size n) = OutOfOrder
+later_of (Label k a t e) = OutOfOrder
+later_of (Member a t k e) = OutOfOrder
+later_of (Fact a t e p) = OutOfOrder
+later_of (Pick a t e p) = OutOfOrder
+later_of (Step k) = OutOfOrder

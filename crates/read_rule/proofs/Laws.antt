@@ -1,8 +1,10 @@
 -- What is said of a formula does not depend on the kinds of the relations, nor, once it is read, on how many types there are where the
 -- entries of the others are empty. Assumes nothing.
+use Rattle.std.specs.Prelude.{Some, None, is_some}
+use Rattle.std.specs.Prelude as P
 use Prim.Native.Nat.{ℕ, ◌+◌, ◌-◌, ◌≤◌}
 use mathlib.Core.Path.{◌≡◌, refl, ap, ◌∙◌}
-use mathlib.Core.Bool.{Bool, true, false, ◌&&◌}
+use mathlib.Core.Bool.{Bool, true, ◌&&◌}
 use mathlib.Core.List.{List}
 use lib.ListN.{length}
 use Rattle.definitions.specs.Lists.{any, all, same}
@@ -12,9 +14,7 @@ use Rattle.definitions.specs.Sheet.Formula.{conjunction, disjunction, exists, fo
 use Rattle.definitions.specs.Sheet.Formula.{g_exists, g_forall, AllWellFormed, no_goods, a_good, is_known, are_known, is_typed, are_typed, type_number}
 use Rattle.definitions.specs.Sheet.Parsing.{Res, bad, ok, read}
 use Rattle.laws.specs.Writing.{sound}
-use Rattle.read_text.specs.Spans.{place_of}
-use Rattle.read_text.specs.declared.Found.{Found as Place}
-use Rattle.read_text.specs.declared.Found.TheVariants.{At, Nowhere}
+use Rattle.read_text.specs.Spans.{option_of}
 use Rattle.read_names.specs.Signatures.{has_arity, lent_of, all_of, types_in, types_of, NoFurther}
 use Rattle.read_names.specs.Types.{has_type_in}
 use Rattle.read_names.specs.declared.Signature.{Signature}
@@ -22,7 +22,7 @@ use Rattle.read_names.proofs.Laws.{any_lent, any_found, any_missed, found_some, 
 use Rattle.read_rule.specs.Seen.{seen, facts}
 use Rattle.read_rule.specs.Said.{facts_eq}
 use Rattle.read_rule.specs.declared.Facts.{Facts}
-use Rattle.read_rule.specs.declared.Scanned.TheVariants.{Ok}
+use Rattle.std.specs.Prelude.{Some}
 
 module _ (rs qs : List Relation) (h : (name : List ℕ) (k : ℕ) → any (has_arity name k) rs ≡ any (has_arity name k) qs) where
   mutual
@@ -64,14 +64,10 @@ module _ (ts us : List (List ℕ)) (h : (q : Quantified) → is_quantified q ≡
     each_as (a_good a rest) = rw (typed_as a, each_as rest)
 
 -- what looking a type up by its name says
-module _ (types : List (List ℕ)) (name : List ℕ) (f : Place) (w : f ≡ place_of (type_number types name)) where
-  pub is_type_lem : (i : ℕ) → f ≡ At i → true ≡ any (λ t. same t name) types
-  unfolding type_number
-  is_type_lem i e = any_found (λ t. same t name) (λ t. same t name) (λ t. refl) types i (found_some _ i f e w)
-
-  pub no_type : f ≡ Nowhere → false ≡ any (λ t. same t name) types
-  unfolding type_number
-  no_type e = any_missed (λ t. same t name) (λ t. same t name) (λ t. refl) types (found_none _ f e w)
+pub is_type_lem : (types : List (List ℕ)) (name : List ℕ) (f : P.Option ℕ) → f ≡ option_of (type_number types name) → is_some f ≡ any (λ t. same t name) types
+unfolding type_number
+is_type_lem types name None w = any_missed (λ t. same t name) (λ t. same t name) (λ t. refl) types (found_none _ None refl w)
+is_type_lem types name (Some i) w = any_found (λ t. same t name) (λ t. same t name) (λ t. refl) types i (found_some _ i (Some i) refl w)
 
 -- the names and the arities of a signature say it all
 pub seen_lent : (q : List ℕ) (g : Signature) (m : ℕ) → m ≡ g.rels + g.chosen + g.every → g.every ≤ 1 → g.types ≤ 8 → NoFurther g.to g.types → (sc : List (List ℕ)) (len k : ℕ) (l : List ℕ)
@@ -83,5 +79,5 @@ seen_lent q g m e one few none sc len k l = by_res (read k l) refl
         → seen (facts (all_of q (lent_of g.from g.to g.arity m)) (types_in q g.from g.to 8) sc) len x ≡ seen (facts (all_of q g) (types_of q g) sc) len x
     by_res bad w = refl
     by_res (ok f r) w =
-        ap (λ (x : Facts). Ok (len - length r) x) (facts_eq _ _ _ _ _ _ _ _ _ _ refl refl (known_as _ _ (λ name j. any_lent name j q g m e one) f) refl
+        ap (λ (x : Facts). Some (len - length r, x)) (facts_eq _ _ _ _ _ _ _ _ _ _ refl refl (known_as _ _ (λ name j. any_lent name j q g m e one) f) refl
         (typed_as _ _ (λ x. has_type_in q g.from g.to g.types few none x) (sound k l f r w).good))

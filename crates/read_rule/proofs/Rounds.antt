@@ -22,8 +22,8 @@ use Rattle.read_rule.specs.Bound.{list_facts, bound_facts}
 use Rattle.read_rule.specs.declared.Scope.{Scope}
 use Rattle.read_rule.specs.declared.Grown.{Grown}
 use Rattle.read_rule.specs.declared.Kind.{Kind as Form}
-use Rattle.read_rule.specs.declared.Scanned.{Scanned}
-use Rattle.read_rule.specs.declared.Scanned.TheVariants.{Ok}
+use Rattle.read_rule.specs.Seen.{Scanned}
+use Rattle.std.specs.Prelude.{Some}
 
 -- a formula that was found, by a signature whose arrays are lent; and further parts
 abbrev pub Part : (s from to arity : List ℕ) (m : ℕ) (sc : Scope) (k at next : ℕ) → Facts → Type 0
@@ -31,12 +31,12 @@ Part s from to arity m sc k at next n =
     Hit (facts (all_of s (lent_of from to arity m)) (types_in s from to 8) (names s sc)) s at (read k (drop at s)) next n
 
 pub found : (rs : List Relation) (types sc : List (List ℕ)) (s : List ℕ) (k : ℕ) {at next : ℕ} {n : Facts} {r : Scanned} → at ≤ length s
-    → r ≡ Ok next n → r ≡ seen (facts rs types sc) (length s) (read k (drop at s))
+    → r ≡ Some (next, n) → r ≡ seen (facts rs types sc) (length s) (read k (drop at s))
     → Hit (facts rs types sc) s at (read k (drop at s)) next n
 found rs types sc s k h told e = hit _ _ _ _ _ _ (fit_read _ _ _ _ _) h (sym told ∙ e)
 
 pub found_parts : (rs : List Relation) (types sc : List (List ℕ)) (s : List ℕ) (k left : ℕ) {at next : ℕ} {n : Facts} {r : Scanned} → at ≤ length s
-    → r ≡ Ok next n → r ≡ seen (facts_all rs types sc) (length s) (read_parts (read k) left (drop at s))
+    → r ≡ Some (next, n) → r ≡ seen (facts_all rs types sc) (length s) (read_parts (read k) left (drop at s))
     → Hit (facts_all rs types sc) s at (read_parts (read k) left (drop at s)) next n
 found_parts rs types sc s k left h told e = hit _ _ _ _ _ _ (fit_parts _ _ _ _ _ _) h (sym told ∙ e)
 
@@ -73,12 +73,12 @@ pub record Listed (types : List (List ℕ)) (s : List ℕ) (at a b : ℕ) (n m :
   pub one : Hit (typed_facts types) s at (read_typed (drop at s)) a n
   pub others : Hit (more_facts types) s a (read_more 3 (drop a s)) b m
 
-pub found_typed : (types : List (List ℕ)) (s : List ℕ) {at next : ℕ} {n : Facts} {r : Scanned} → at ≤ length s → r ≡ Ok next n
+pub found_typed : (types : List (List ℕ)) (s : List ℕ) {at next : ℕ} {n : Facts} {r : Scanned} → at ≤ length s → r ≡ Some (next, n)
     → r ≡ seen (typed_facts types) (length s) (read_typed (drop at s)) → Hit (typed_facts types) s at (read_typed (drop at s)) next n
 found_typed types s h told e = hit _ _ _ _ _ _ (fit_typed _ _) h (sym told ∙ e)
 
 pub found_list : (types : List (List ℕ)) (s : List ℕ) {at a b : ℕ} {n m : Facts} {r : Scanned}
-    → Hit (typed_facts types) s at (read_typed (drop at s)) a n → r ≡ Ok b m → r ≡ seen (more_facts types) (length s) (read_more 3 (drop a s))
+    → Hit (typed_facts types) s at (read_typed (drop at s)) a n → r ≡ Some (b, m) → r ≡ seen (more_facts types) (length s) (read_more 3 (drop a s))
     → Listed types s at a b n m
 found_list types s h told e = record { one = h; others = hit _ _ _ _ _ _ (fit_more _ _ _) h.within (sym told ∙ e) }
 

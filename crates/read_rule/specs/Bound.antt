@@ -21,7 +21,7 @@ use Rattle.read_rule.specs.Spans.{length_names, listed_more, listed_none, grow_m
 use Rattle.read_rule.specs.declared.Scope.{Scope}
 use Rattle.read_rule.specs.declared.Grown.{Grown}
 use Rattle.read_rule.specs.declared.Facts.{Facts}
-use Rattle.read_rule.specs.declared.Scanned.TheVariants.{Bad}
+use Rattle.std.specs.Prelude.{None}
 
 pub few : (s : List ℕ) (sc : Scope) → sc.n ≤ 4 → length (names s sc) ≤ 4
 few s sc h = rw (length_names s sc) h
@@ -233,7 +233,7 @@ unfolding names spans
 names_none s F T = refl
 
 module _ (rs : List Relation) (types : List (List ℕ)) (ds : List Relation) (vs : List (List ℕ)) (s : List ℕ) (at e : ℕ) (h : at ≤ e) (k : e ≤ length s) where
-  pub verdict_bad : Bad ≡ seen (facts rs types vs) (length s) (read 128 (drop at s)) → 5 ≡ rule_number rs types ds (slice at e s)
+  pub verdict_bad : None ≡ seen (facts rs types vs) (length s) (read 128 (drop at s)) → 5 ≡ rule_number rs types ds (slice at e s)
   verdict_bad q = number_none rs types ds (slice at e s) (field_bad s at e h k (miss (facts rs types vs) (length s) (read 128 (drop at s)) q))
 
   module _ (next : ℕ) (n : Facts) (f : Hit (facts rs types vs) s at (read 128 (drop at s)) next n) where

@@ -8,15 +8,15 @@ use Rattle.read_names.specs.Signatures.{has_arity}
 use Rattle.definitions.specs.Sheet.Relations.{Relation, is_total}
 use Rattle.definitions.specs.Sheet.Formula.{Formula, Formulas, forms, forms_all, nesting, nesting_all, Quantified, is_known, are_known, is_scoped, are_scoped, is_bound, are_new, is_typed, are_typed, has_type, all_forms}
 use Rattle.definitions.specs.Sheet.Parsing.{Res, bad, ok, begins, close, span, Head, is_not, is_implies, is_and, is_or, is_exists, is_forall, is_other, read_formula}
+use Rattle.refusal.specs.declared.Cause.{Cause}
+use Rattle.refusal.specs.Numbers.{number_of}
 use Rattle.read_rule.specs.declared.Kind.{Kind as Form}
 use Rattle.read_rule.specs.declared.Kind.TheVariants.{Not, Implies, And, Or, Exists, Forall, Other}
-use Rattle.read_rule.specs.declared.Scanned.{Scanned}
-use Rattle.read_rule.specs.declared.Scanned.TheVariants.{Ok, Bad}
+use Rattle.std.specs.Prelude.{Some, None, Ok, Err}
+use Rattle.std.specs.Prelude as P
 use Rattle.read_rule.specs.declared.Facts.{Facts}
 use Rattle.read_rule.specs.declared.Scope.{Scope}
 use Rattle.read_rule.specs.declared.Grown.{Grown}
-use Rattle.read_rule.specs.declared.Verdict.{Verdict}
-use Rattle.read_rule.specs.declared.Verdict.TheVariants.{Fine, NotOfForm, TooLarge, Unknown, Unbound, Undeclared}
 
 abbrev pub head_of : Form → Head
 head_of Not = is_not
@@ -27,16 +27,20 @@ head_of Exists = is_exists
 head_of Forall = is_forall
 head_of Other = is_other
 
+-- what is found at a place: where it ends and what is said of it, or none where it is not of its form
+abbrev pub Scanned : Type 0
+Scanned = P.Option (ℕ × Facts)
+
 -- of a text of `len` bytes: the place where the rest begins, and what is said of what was read
 unfoldable pub seen : {A : Type 0} → (A → Facts) → ℕ → Res A → Scanned
-seen w len bad = Bad
-seen w len (ok a r) = Ok (len - length r) (w a)
+seen w len bad = None
+seen w len (ok a r) = Some (len - length r, w a)
 
 abbrev pub nought : List ℕ → Facts
 nought w = record { forms = 0; fits = true; known = true; scoped = true; typed = true }
 
 unfoldable pub shut_of : List ℕ → ℕ → Facts → Scanned
-shut_of s at f = elim (begins close (drop at s)) [ true ↦ Ok (at + 1) f | false ↦ Bad ]
+shut_of s at f = elim (begins close (drop at s)) [ true ↦ Some (at + 1, f) | false ↦ None ]
 
 -- the names of a scope's variables
 unfoldable pub spans : List ℕ → List ℕ → List ℕ → ℕ → ℕ → List (List ℕ)
@@ -151,10 +155,7 @@ rule_number rs types chosen text =
     else if not (is_typed types f) then 19
     else 0)
 
-abbrev pub verdict_number : Verdict → ℕ
-verdict_number Fine = 0
-verdict_number NotOfForm = 5
-verdict_number TooLarge = 6
-verdict_number Unknown = 7
-verdict_number Unbound = 8
-verdict_number Undeclared = 19
+-- the number of what a test finds, 0 where it finds nothing
+abbrev pub fault_in : P.Result (Unit {0}) Cause → ℕ
+fault_in (Ok u) = 0
+fault_in (Err c) = number_of c

@@ -25,7 +25,8 @@ use Rattle.laws.specs.Writing.{and_l, begins_is, var_is, sound_word, span_le, so
 use Rattle.read_rule.specs.Seen.{seen, nought, shut_of, facts, facts_all, var_facts, vars_facts, typed_facts, more_facts, both_facts, one_more, lit_facts}
 use Rattle.read_rule.specs.Turns.{after}
 use Rattle.read_rule.specs.Said.{neg_facts, imp_facts, join_facts, all_facts, nil_facts, lit_facts_lem, vars_facts_lem, more_facts_lem}
-use Rattle.read_rule.specs.declared.Scanned.TheVariants.{Ok, Bad}
+use Rattle.std.proofs.lemmas.Option.{some_pair_parts}
+use Rattle.std.specs.Prelude.{Some, None}
 use Rattle.read_rule.specs.declared.Facts.{Facts}
 
 -- what is read is a front of the list, and is at least as long as it weighs
@@ -48,7 +49,7 @@ pub record Hit {A : Type 0} (w : A → Facts) (s : List ℕ) (at : ℕ) (x : Res
   pub took : drop at s ≡ front ++ drop next s
   pub long : next ≡ at + length front
 
-pub miss : {A : Type 0} (w : A → Facts) (len : ℕ) (x : Res A) → Bad ≡ seen w len x → x ≡ bad
+pub miss : {A : Type 0} (w : A → Facts) (len : ℕ) (x : Res A) → None ≡ seen w len x → x ≡ bad
 unfolding seen
 miss w len bad e = refl
 miss w len (ok a r) e = cc
@@ -62,15 +63,16 @@ front_length s p r at h e = from_this (sym (length-drop at s) ∙ ap length e �
     from_this : length s - at ≡ length p + length r → length s - length r ≡ at + length p
     from_this q = omega arith
 
-pub hit : {A : Type 0} (w : A → Facts) (s : List ℕ) (at : ℕ) (x : Res A) (next : ℕ) (n : Facts) → Fit w (drop at s) x → at ≤ length s → Ok next n ≡ seen w (length s) x → Hit w s at x next n
+pub hit : {A : Type 0} (w : A → Facts) (s : List ℕ) (at : ℕ) (x : Res A) (next : ℕ) (n : Facts) → Fit w (drop at s) x → at ≤ length s → Some (next, n) ≡ seen w (length s) x → Hit w s at x next n
 unfolding seen
 hit w s at bad next n f h e = let z : ◌≡◌ {A = ℕ} 0 1 = cc in absurd (omega arith)
 hit w s at (ok a r) next n f h e = from_this (f a r refl)
   where
     from_this : Front w (drop at s) a r → Hit w s at (ok a r) next n
     from_this fr =
-        let hn : next ≡ length s - length r = cc in
-        let hc : n ≡ w a = cc in
+        let parts = some_pair_parts next (length s - length r) n (w a) e in
+        let hn : next ≡ length s - length r = parts.0 in
+        let hc : n ≡ w a = parts.1 in
         let q : length s - length r ≡ at + length fr.front = front_length s fr.front r at h fr.is in
         let t : drop (at + length fr.front) s ≡ r = front_rest s fr.front r at fr.is in
         let d : next ≡ at + length fr.front = hn ∙ q in
@@ -88,9 +90,9 @@ hit w s at (ok a r) next n f h e = from_this (f a r refl)
               (arith, d, ap (λ (x : Facts). x.forms) hc, fr.heavy);
         }
 
-pub at_end : {A : Type 0} (w : A → Facts) (s : List ℕ) (a : A) (e : ℕ) → e ≤ length s → seen w (length s) (ok a (drop e s)) ≡ Ok e (w a)
+pub at_end : {A : Type 0} (w : A → Facts) (s : List ℕ) (a : A) (e : ℕ) → e ≤ length s → seen w (length s) (ok a (drop e s)) ≡ Some (e, w a)
 unfolding seen
-at_end w s a e h = ap (λ (m : ℕ). Ok m (w a)) (from_this (length-drop e s))
+at_end w s a e h = ap (λ (m : ℕ). Some (m, w a)) (from_this (length-drop e s))
   where
     from_this : length (drop e s) ≡ length s - e → length s - length (drop e s) ≡ e
     from_this q = omega arith
@@ -120,15 +122,15 @@ unfolding span
 run_end b s i h = rw (drop_of_length-le s {i = i} h) (omega arith)
 
 -- ---- `word`
-pub at_none : (b : Bool) (s : List ℕ) (at : ℕ) → length s ≤ at → seen nought (length s) (read_word b (drop at s)) ≡ Bad
+pub at_none : (b : Bool) (s : List ℕ) (at : ℕ) → length s ≤ at → seen nought (length s) (read_word b (drop at s)) ≡ None
 unfolding seen
 at_none b s at h = rw (drop_of_length-le s {i = at} h, word_nil b)
 
-pub at_first : (b : Bool) (s : List ℕ) (at : ℕ) → at < length s → first b (get_or s at 0) ≡ false → seen nought (length s) (read_word b (drop at s)) ≡ Bad
+pub at_first : (b : Bool) (s : List ℕ) (at : ℕ) → at < length s → first b (get_or s at 0) ≡ false → seen nought (length s) (read_word b (drop at s)) ≡ None
 unfolding seen
 at_first b s at h e = rw (drop-cons s at 0 h, word_no b (get_or s at 0) (drop (suc at) s) (rw e))
 
-pub at_long : (b : Bool) (s : List ℕ) (at end most : ℕ) → at < length s → first b (get_or s at 0) ≡ true → end ≡ (at + 1) + span b (drop (at + 1) s) → most ≡ longest b → most < end - at → seen nought (length s) (read_word b (drop at s)) ≡ Bad
+pub at_long : (b : Bool) (s : List ℕ) (at end most : ℕ) → at < length s → first b (get_or s at 0) ≡ true → end ≡ (at + 1) + span b (drop (at + 1) s) → most ≡ longest b → most < end - at → seen nought (length s) (read_word b (drop at s)) ≡ None
 unfolding seen
 at_long b s at end most h e q m l = rw (drop-cons s at 0 h, word_no b (get_or s at 0) (drop (suc at) s) (rw (e, lt-leb (suc (span b (drop (suc at) s))) (longest b) (from_this (rw (add-one at) at q)))))
   where
@@ -138,15 +140,15 @@ at_long b s at end most h e q m l = rw (drop-cons s at 0 h, word_no b (get_or s 
 pub fit_word : (b : Bool) (l : List ℕ) → Fit nought l (read_word b l)
 fit_word b l a r e = record { front = a; is = (sound_word b l a r e).written; heavy = zero-le }
 
-word_ends : (b : Bool) (s : List ℕ) (at : ℕ) → at < length s → (first b (get_or s at 0) && leb (suc (span b (drop (suc at) s))) (longest b)) ≡ true → seen nought (length s) (read_word b (drop at s)) ≡ Ok ((suc at) + span b (drop (suc at) s)) (nought [])
+word_ends : (b : Bool) (s : List ℕ) (at : ℕ) → at < length s → (first b (get_or s at 0) && leb (suc (span b (drop (suc at) s))) (longest b)) ≡ true → seen nought (length s) (read_word b (drop at s)) ≡ Some ((suc at) + span b (drop (suc at) s), nought [])
 unfolding seen
-word_ends b s at h e = rw (drop-cons s at 0 h, word_yes b (get_or s at 0) (drop (suc at) s) e) (ap (λ (m : ℕ). Ok m (nought [])) (by_number (span b (drop (suc at) s)) (span_le b (drop (suc at) s)) (length-drop (suc at) s) (length-drop (span b (drop (suc at) s)) (drop (suc at) s))))
+word_ends b s at h e = rw (drop-cons s at 0 h, word_yes b (get_or s at 0) (drop (suc at) s) e) (ap (λ (m : ℕ). Some (m, nought [])) (by_number (span b (drop (suc at) s)) (span_le b (drop (suc at) s)) (length-drop (suc at) s) (length-drop (span b (drop (suc at) s)) (drop (suc at) s))))
   where
     by_number : (n : ℕ) → n ≤ length (drop (suc at) s) → length (drop (suc at) s) ≡ length s - suc at → length (drop n (drop (suc at) s)) ≡ length (drop (suc at) s) - n → length s - length (drop n (drop (suc at) s)) ≡ suc at + n
     by_number n q x y = omega arith
 
-pub at_word : (b : Bool) (s : List ℕ) (at end most : ℕ) → at < length s → first b (get_or s at 0) ≡ true → end ≡ (at + 1) + span b (drop (at + 1) s) → most ≡ longest b → end - at ≤ most → seen nought (length s) (read_word b (drop at s)) ≡ Ok end (nought [])
-at_word b s at end most h e q m l = word_ends b s at h (rw (e, le-leb (suc (span b (drop (suc at) s))) (longest b) (from_this (rw (add-one at) at q)))) ∙ ap (λ (n : ℕ). Ok n (nought [])) (sym (rw (add-one at) at q))
+pub at_word : (b : Bool) (s : List ℕ) (at end most : ℕ) → at < length s → first b (get_or s at 0) ≡ true → end ≡ (at + 1) + span b (drop (at + 1) s) → most ≡ longest b → end - at ≤ most → seen nought (length s) (read_word b (drop at s)) ≡ Some (end, nought [])
+at_word b s at end most h e q m l = word_ends b s at h (rw (e, le-leb (suc (span b (drop (suc at) s))) (longest b) (from_this (rw (add-one at) at q)))) ∙ ap (λ (n : ℕ). Some (n, nought [])) (sym (rw (add-one at) at q))
   where
     from_this : end ≡ suc at + span b (drop (suc at) s) → suc (span b (drop (suc at) s)) ≤ longest b
     from_this r = omega arith
@@ -177,20 +179,20 @@ module _ (s : List ℕ) (at : ℕ) where
       by_res bad = refl
       by_res (ok v r) = refl
 
-  pub var_no : begins (63 ∷ []) (drop at s) ≡ false → Bad ≡ seen nought (length s) (read_var (drop at s))
+  pub var_no : begins (63 ∷ []) (drop at s) ≡ false → None ≡ seen nought (length s) (read_var (drop at s))
   unfolding read_var seen
   var_no e = rw (e, read_var)
 
   module _ (sc : List (List ℕ)) where
-    pub var_bad : Bad ≡ seen nought (length s) (read_var (drop at s)) → Bad ≡ seen (var_facts sc) (length s) (read_var (drop at s))
+    pub var_bad : None ≡ seen nought (length s) (read_var (drop at s)) → None ≡ seen (var_facts sc) (length s) (read_var (drop at s))
     unfolding seen
     var_bad b = rw (miss nought (length s) (read_var (drop at s)) b)
 
     pub var_ok : (e : ℕ) (n : Facts) (b : Bool) → Hit nought s at (read_var (drop at s)) e n → b ≡ is_bound sc (slice at e s)
-        → Ok e (record { forms = 1; fits = true; known = true; scoped = b; typed = true }) ≡ seen (var_facts sc) (length s) (read_var (drop at s))
+        → Some (e, record { forms = 1; fits = true; known = true; scoped = b; typed = true }) ≡ seen (var_facts sc) (length s) (read_var (drop at s))
     var_ok e n b h q =
         let sl : slice at e s ≡ h.got = slice_front s h.got at e h.within (sound_var (drop at s) h.got (drop e s) h.is).written in
-        ap (λ (x : Bool). Ok e (record { forms = 1; fits = true; known = true; scoped = x; typed = true })) (q ∙ ap (λ (x : List ℕ). is_bound sc x) sl)
+        ap (λ (x : Bool). Some (e, record { forms = 1; fits = true; known = true; scoped = x; typed = true })) (q ∙ ap (λ (x : List ℕ). is_bound sc x) sl)
         ∙ sym (at_end (var_facts sc) s h.got e h.within) ∙ ap (λ (x : Res (List ℕ)). seen (var_facts sc) (length s) x) (sym h.is)
 
 pub fit_variable : (l : List ℕ) → Fit nought l (read_var l)
@@ -211,29 +213,29 @@ type_some types v t = refl
 module _ (types : List (List ℕ)) (s : List ℕ) (at : ℕ) where
   module _ (v : List ℕ) where
     pub type_no : at ≤ length s → begins (58 ∷ []) (drop at s) ≡ false
-        → Ok at (record { forms = 1; fits = true; known = true; scoped = true; typed = true }) ≡ seen (typed_facts types) (length s) (read_type v (drop at s))
+        → Some (at, record { forms = 1; fits = true; known = true; scoped = true; typed = true }) ≡ seen (typed_facts types) (length s) (read_type v (drop at s))
     unfolding read_type
     type_no h e =
-        rw (e, read_type) (sym (at_end (typed_facts types) s (record { variable = v; type = none }) at h ∙ ap (λ (b : Bool). Ok at (record { forms = 1; fits = true; known = true; scoped = true; typed = b })) (type_none types v)))
+        rw (e, read_type) (sym (at_end (typed_facts types) s (record { variable = v; type = none }) at h ∙ ap (λ (b : Bool). Some (at, record { forms = 1; fits = true; known = true; scoped = true; typed = b })) (type_none types v)))
 
     module _ (o : begins (58 ∷ []) (drop at s) ≡ true) where
       type_at : read_type v (drop at s) ≡ and_then (read_word false (drop (at + 1) s)) (λ t r. ok (record { variable = v; type = some t }) r)
       unfolding read_type
       type_at = rw (o, read_type) (ap (λ (l : List ℕ). and_then (read_word false l) (λ t r. ok (record { variable = v; type = some t }) r)) (drop-drop 1 at s))
 
-      pub type_bad : Bad ≡ seen nought (length s) (read_word false (drop (at + 1) s)) → Bad ≡ seen (typed_facts types) (length s) (read_type v (drop at s))
+      pub type_bad : None ≡ seen nought (length s) (read_word false (drop (at + 1) s)) → None ≡ seen (typed_facts types) (length s) (read_type v (drop at s))
       unfolding seen
       type_bad b = rw (type_at, miss nought (length s) (read_word false (drop (at + 1) s)) b)
 
       pub type_ok : (e : ℕ) (n : Facts) (b : Bool) → Hit nought s (at + 1) (read_word false (drop (at + 1) s)) e n → b ≡ any (λ t. same t (slice (at + 1) e s)) types
-          → Ok e (record { forms = 1; fits = true; known = true; scoped = true; typed = b }) ≡ seen (typed_facts types) (length s) (read_type v (drop at s))
+          → Some (e, record { forms = 1; fits = true; known = true; scoped = true; typed = b }) ≡ seen (typed_facts types) (length s) (read_type v (drop at s))
       type_ok e n b h q =
           let sl : slice (at + 1) e s ≡ h.got = slice_front s h.got (at + 1) e h.within (sound_word false (drop (at + 1) s) h.got (drop e s) h.is).written in
           let is : read_type v (drop at s) ≡ ok (record { variable = v; type = some h.got }) (drop e s) = rw (type_at, h.is) in
-          ap (λ (x : Bool). Ok e (record { forms = 1; fits = true; known = true; scoped = true; typed = x })) (q ∙ ap (λ (x : List ℕ). any (λ t. same t x) types) sl ∙ sym (type_some types v h.got))
+          ap (λ (x : Bool). Some (e, record { forms = 1; fits = true; known = true; scoped = true; typed = x })) (q ∙ ap (λ (x : List ℕ). any (λ t. same t x) types) sl ∙ sym (type_some types v h.got))
           ∙ sym (at_end (typed_facts types) s (record { variable = v; type = some h.got }) e h.within) ∙ ap (λ (x : Res Quantified). seen (typed_facts types) (length s) x) (sym is)
 
-  pub typed_bad : Bad ≡ seen nought (length s) (read_var (drop at s)) → Bad ≡ seen (typed_facts types) (length s) (read_typed (drop at s))
+  pub typed_bad : None ≡ seen nought (length s) (read_var (drop at s)) → None ≡ seen (typed_facts types) (length s) (read_typed (drop at s))
   unfolding read_typed seen
   typed_bad b = rw (miss nought (length s) (read_var (drop at s)) b)
 
@@ -249,11 +251,11 @@ pub fit_typed : (types : List (List ℕ)) (l : List ℕ) → Fit (typed_facts ty
 fit_typed types l a r e = record { front = write_typed a; is = (sound_typed l a r e).0; heavy = typed_long a (sound_typed l a r e).1 }
 
 -- ---- `shut`
-pub shut_yes : (s : List ℕ) (at : ℕ) (n : Facts) → begins close (drop at s) ≡ true → shut_of s at n ≡ Ok (at + 1) n
+pub shut_yes : (s : List ℕ) (at : ℕ) (n : Facts) → begins close (drop at s) ≡ true → shut_of s at n ≡ Some (at + 1, n)
 unfolding shut_of
 shut_yes s at n e = rw (e, shut_of)
 
-pub shut_no : (s : List ℕ) (at : ℕ) (n : Facts) → begins close (drop at s) ≡ false → shut_of s at n ≡ Bad
+pub shut_no : (s : List ℕ) (at : ℕ) (n : Facts) → begins close (drop at s) ≡ false → shut_of s at n ≡ None
 unfolding shut_of
 shut_no s at n e = rw (e, shut_of)
 
@@ -286,11 +288,11 @@ unfolding all
 more_together types = record { none = refl; next = λ q qs. more_facts_lem [] types [] q qs }
 
 module _ {A : Type 0} (one : List ℕ → Res A) (w : A → Facts) (ws : List A → Facts) (t : Together w ws) (s : List ℕ) (at left : ℕ) where
-  pub each_stop_at : at ≤ length s → begins (32 ∷ []) (drop at s) ≡ false → Ok at (nought []) ≡ seen ws (length s) (read_each one left (drop at s))
+  pub each_stop_at : at ≤ length s → begins (32 ∷ []) (drop at s) ≡ false → Some (at, nought []) ≡ seen ws (length s) (read_each one left (drop at s))
   each_stop_at h e =
-      sym (ap (λ (x : Res (List A)). seen ws (length s) x) (each_none one (λ _. []) (λ _. true) left (drop at s) e) ∙ at_end ws s [] at h ∙ ap (λ (f : Facts). Ok at f) t.none)
+      sym (ap (λ (x : Res (List A)). seen ws (length s) x) (each_none one (λ _. []) (λ _. true) left (drop at s) e) ∙ at_end ws s [] at h ∙ ap (λ (f : Facts). Some (at, f)) t.none)
 
-  pub each_full : left ≡ 0 → begins (32 ∷ []) (drop at s) ≡ true → Bad ≡ seen ws (length s) (read_each one left (drop at s))
+  pub each_full : left ≡ 0 → begins (32 ∷ []) (drop at s) ≡ true → None ≡ seen ws (length s) (read_each one left (drop at s))
   unfolding read_each seen
   each_full q e = rw q (rw (e, read_each))
 
@@ -302,7 +304,7 @@ module _ {A : Type 0} (one : List ℕ → Res A) (w : A → Facts) (ws : List A 
   each_at : (left ≡ 0 → ⊥) → begins (32 ∷ []) (drop at s) ≡ true → read_each one left (drop at s) ≡ and_then (one (drop (at + 1) s)) (λ v m. and_then (read_each one (left - 1) m) (λ vs r. ok (v ∷ vs) r))
   each_at q e = step left (drop at s) q e ∙ ap (λ (l : List ℕ). and_then (one l) (λ v m. and_then (read_each one (left - 1) m) (λ vs r. ok (v ∷ vs) r))) (drop-drop 1 at s)
 
-  pub each_bad : (left ≡ 0 → ⊥) → begins (32 ∷ []) (drop at s) ≡ true → Bad ≡ seen w (length s) (one (drop (at + 1) s)) → Bad ≡ seen ws (length s) (read_each one left (drop at s))
+  pub each_bad : (left ≡ 0 → ⊥) → begins (32 ∷ []) (drop at s) ≡ true → None ≡ seen w (length s) (one (drop (at + 1) s)) → None ≡ seen ws (length s) (read_each one left (drop at s))
   unfolding seen
   each_bad q e b = rw (each_at q e, miss w (length s) (one (drop (at + 1) s)) b)
 
@@ -313,7 +315,7 @@ module _ {A : Type 0} (one : List ℕ → Res A) (w : A → Facts) (ws : List A 
       where
         by_res : (x : Res (List A)) → seen ws (length s) (and_then x (λ vs r. ok (v.got ∷ vs) r)) ≡ after z (seen ws (length s) x)
         by_res bad = refl
-        by_res (ok vs r) = ap (λ (m : Facts). Ok (length s - length r) m) (t.next v.got vs ∙ ap (λ (m : Facts). both_facts m (ws vs)) (sym v.counted))
+        by_res (ok vs r) = ap (λ (m : Facts). Some (length s - length r, m)) (t.next v.got vs ∙ ap (λ (m : Facts). both_facts m (ws vs)) (sym v.counted))
 
 -- ---- a formula weighs no more than its bytes
 heavy_join : (p w : List ℕ) (n : ℕ) → n ≤ length w → 1 ≤ length p → 1 + n ≤ length (p ++ w ++ 41 ∷ [])
@@ -375,7 +377,7 @@ pub want_no : {A : Type 0} (p : List ℕ) (x : A) (l : List ℕ) → begins p l 
 unfolding want
 want_no p x l e = rw (e, want)
 
-pub seen_bad : {A : Type 0} (w : A → Facts) (n : ℕ) → seen w n bad ≡ Bad
+pub seen_bad : {A : Type 0} (w : A → Facts) (n : ℕ) → seen w n bad ≡ None
 unfolding seen
 seen_bad w n = refl
 
@@ -383,7 +385,7 @@ pub want_shut : (w : Formula → Facts) (s : List ℕ) (f : Formula) (a : ℕ) (
 want_shut w s f a n h q = by_test (begins close (drop a s)) refl
   where
     by_test : (t : Bool) → begins close (drop a s) ≡ t → shut_of s a n ≡ seen w (length s) (want close f (drop a s))
-    by_test true e = shut_yes s a n e ∙ ap (λ (m : Facts). Ok (a + 1) m) q ∙ sym (ap (λ (x : Res Formula). seen w (length s) x) (want_yes close f s a e) ∙ at_end w s f (a + 1) (room close s a h e))
+    by_test true e = shut_yes s a n e ∙ ap (λ (m : Facts). Some (a + 1, m)) q ∙ sym (ap (λ (x : Res Formula). seen w (length s) x) (want_yes close f s a e) ∙ at_end w s f (a + 1) (room close s a h e))
     by_test false e = shut_no s a n e ∙ sym (ap (λ (x : Res Formula). seen w (length s) x) (want_no close f (drop a s) e) ∙ seen_bad w (length s))
 
 -- ---- the forms, step by step. Each says what the code's answer is, from what the calls gave
@@ -391,7 +393,7 @@ two : {n x m y : Facts} → n ≡ x → m ≡ y → both_facts n m ≡ both_fact
 two e h = rw (e, h)
 
 module _ (rs : List Relation) (types sc : List (List ℕ)) (s : List ℕ) (at : ℕ) (g : List ℕ → Res Formula) where
-  pub neg_bad : Bad ≡ seen (facts rs types sc) (length s) (g (drop at s)) → Bad ≡ seen (facts rs types sc) (length s) (read_neg g (drop at s))
+  pub neg_bad : None ≡ seen (facts rs types sc) (length s) (g (drop at s)) → None ≡ seen (facts rs types sc) (length s) (read_neg g (drop at s))
   unfolding read_neg seen
   neg_bad b = rw (miss (facts rs types sc) (length s) (g (drop at s)) b)
 
@@ -399,16 +401,16 @@ module _ (rs : List Relation) (types sc : List (List ℕ)) (s : List ℕ) (at : 
   unfolding read_neg
   neg_ok a n h = rw h.is (want_shut (facts rs types sc) s (negation h.got) a (one_more n) h.within (ap (λ (m : Facts). one_more m) h.counted ∙ sym (neg_facts rs types sc h.got)))
 
-  pub imp_bad : Bad ≡ seen (facts rs types sc) (length s) (g (drop at s)) → Bad ≡ seen (facts rs types sc) (length s) (read_imp g (drop at s))
+  pub imp_bad : None ≡ seen (facts rs types sc) (length s) (g (drop at s)) → None ≡ seen (facts rs types sc) (length s) (read_imp g (drop at s))
   unfolding read_imp seen
   imp_bad b = rw (miss (facts rs types sc) (length s) (g (drop at s)) b)
 
   module _ (a : ℕ) (n : Facts) (h : Hit (facts rs types sc) s at (g (drop at s)) a n) where
-    pub imp_gap : begins (32 ∷ []) (drop a s) ≡ false → Bad ≡ seen (facts rs types sc) (length s) (read_imp g (drop at s))
+    pub imp_gap : begins (32 ∷ []) (drop a s) ≡ false → None ≡ seen (facts rs types sc) (length s) (read_imp g (drop at s))
     unfolding read_imp seen
     imp_gap e = rw (h.is, want_no (32 ∷ []) h.got (drop a s) e)
 
-    pub imp_bad_2 : begins (32 ∷ []) (drop a s) ≡ true → Bad ≡ seen (facts rs types sc) (length s) (g (drop (a + 1) s)) → Bad ≡ seen (facts rs types sc) (length s) (read_imp g (drop at s))
+    pub imp_bad_2 : begins (32 ∷ []) (drop a s) ≡ true → None ≡ seen (facts rs types sc) (length s) (g (drop (a + 1) s)) → None ≡ seen (facts rs types sc) (length s) (read_imp g (drop at s))
     unfolding read_imp seen
     imp_bad_2 e b = rw (h.is, want_yes (32 ∷ []) h.got s a e, miss (facts rs types sc) (length s) (g (drop (a + 1) s)) b)
 
@@ -417,12 +419,12 @@ module _ (rs : List Relation) (types sc : List (List ℕ)) (s : List ℕ) (at : 
     imp_ok e b m k = rw (h.is, want_yes (32 ∷ []) h.got s a e, k.is) (want_shut (facts rs types sc) s (implication h.got k.got) b (one_more (both_facts n m)) k.within (ap (λ (x : Facts). one_more x) (two h.counted k.counted) ∙ sym (imp_facts rs types sc h.got k.got)))
 
   module _ (j : Join) where
-    pub join_bad : Bad ≡ seen (facts rs types sc) (length s) (g (drop at s)) → Bad ≡ seen (facts rs types sc) (length s) (read_join g j (drop at s))
+    pub join_bad : None ≡ seen (facts rs types sc) (length s) (g (drop at s)) → None ≡ seen (facts rs types sc) (length s) (read_join g j (drop at s))
     unfolding read_join seen
     join_bad b = rw (miss (facts rs types sc) (length s) (g (drop at s)) b)
 
     module _ (a : ℕ) (n : Facts) (h : Hit (facts rs types sc) s at (g (drop at s)) a n) where
-      pub join_bad_2 : Bad ≡ seen (facts_all rs types sc) (length s) (read_parts g (length s - a) (drop a s)) → Bad ≡ seen (facts rs types sc) (length s) (read_join g j (drop at s))
+      pub join_bad_2 : None ≡ seen (facts_all rs types sc) (length s) (read_parts g (length s - a) (drop a s)) → None ≡ seen (facts rs types sc) (length s) (read_join g j (drop at s))
       unfolding read_join seen
       join_bad_2 b = rw (h.is, length-drop a s, miss (facts_all rs types sc) (length s) (read_parts g (length s - a) (drop a s)) b)
 
@@ -436,17 +438,17 @@ module _ (rs : List Relation) (types sc : List (List ℕ)) (s : List ℕ) (at : 
   parts_step (suc n) l h e = rw (e, read_parts, sub-one (suc n))
 
   module _ (left : ℕ) where
-    pub parts_stop_at : length sc ≤ 4 → at ≤ length s → begins (32 ∷ []) (drop at s) ≡ false → Ok at (nought []) ≡ seen (facts_all rs types sc) (length s) (read_parts g left (drop at s))
-    parts_stop_at le h e = sym (ap (λ (x : Res Formulas). seen (facts_all rs types sc) (length s) x) (parts_none g left (drop at s) e) ∙ at_end (facts_all rs types sc) s nil at h ∙ ap (λ (m : Facts). Ok at m) (nil_facts rs types sc le))
+    pub parts_stop_at : length sc ≤ 4 → at ≤ length s → begins (32 ∷ []) (drop at s) ≡ false → Some (at, nought []) ≡ seen (facts_all rs types sc) (length s) (read_parts g left (drop at s))
+    parts_stop_at le h e = sym (ap (λ (x : Res Formulas). seen (facts_all rs types sc) (length s) x) (parts_none g left (drop at s) e) ∙ at_end (facts_all rs types sc) s nil at h ∙ ap (λ (m : Facts). Some (at, m)) (nil_facts rs types sc le))
 
-    pub parts_full : left ≡ 0 → begins (32 ∷ []) (drop at s) ≡ true → Bad ≡ seen (facts_all rs types sc) (length s) (read_parts g left (drop at s))
+    pub parts_full : left ≡ 0 → begins (32 ∷ []) (drop at s) ≡ true → None ≡ seen (facts_all rs types sc) (length s) (read_parts g left (drop at s))
     unfolding read_parts seen
     parts_full q e = rw q (rw (e, read_parts))
 
     parts_at : (left ≡ 0 → ⊥) → begins (32 ∷ []) (drop at s) ≡ true → read_parts g left (drop at s) ≡ and_then (g (drop (at + 1) s)) (λ f m. and_then (read_parts g (left - 1) m) (λ fs r. ok (cons f fs) r))
     parts_at q e = parts_step left (drop at s) q e ∙ ap (λ (l : List ℕ). and_then (g l) (λ f m. and_then (read_parts g (left - 1) m) (λ fs r. ok (cons f fs) r))) (drop-drop 1 at s)
 
-    pub parts_bad : (left ≡ 0 → ⊥) → begins (32 ∷ []) (drop at s) ≡ true → Bad ≡ seen (facts rs types sc) (length s) (g (drop (at + 1) s)) → Bad ≡ seen (facts_all rs types sc) (length s) (read_parts g left (drop at s))
+    pub parts_bad : (left ≡ 0 → ⊥) → begins (32 ∷ []) (drop at s) ≡ true → None ≡ seen (facts rs types sc) (length s) (g (drop (at + 1) s)) → None ≡ seen (facts_all rs types sc) (length s) (read_parts g left (drop at s))
     unfolding seen
     parts_bad q e b = rw (parts_at q e, miss (facts rs types sc) (length s) (g (drop (at + 1) s)) b)
 
@@ -457,20 +459,20 @@ module _ (rs : List Relation) (types sc : List (List ℕ)) (s : List ℕ) (at : 
         where
           by_res : (x : Res Formulas) → seen (facts_all rs types sc) (length s) (and_then x (λ fs r. ok (cons h.got fs) r)) ≡ after n (seen (facts_all rs types sc) (length s) x)
           by_res bad = refl
-          by_res (ok fs r) = ap (λ (m : Facts). Ok (length s - length r) m) (all_facts rs types sc h.got fs ∙ ap (λ (m : Facts). both_facts m (facts_all rs types sc fs)) (sym h.counted))
+          by_res (ok fs r) = ap (λ (m : Facts). Some (length s - length r, m)) (all_facts rs types sc h.got fs ∙ ap (λ (m : Facts). both_facts m (facts_all rs types sc fs)) (sym h.counted))
 
   module _ (q : Quant) where
-    pub quant_bad : Bad ≡ seen (typed_facts types) (length s) (read_typed (drop at s)) → Bad ≡ seen (facts rs types sc) (length s) (read_quant g q (drop at s))
+    pub quant_bad : None ≡ seen (typed_facts types) (length s) (read_typed (drop at s)) → None ≡ seen (facts rs types sc) (length s) (read_quant g q (drop at s))
     unfolding read_quant seen
     quant_bad b = rw (miss (typed_facts types) (length s) (read_typed (drop at s)) b)
 
     module _ (a : ℕ) (z : Facts) (v : Hit (typed_facts types) s at (read_typed (drop at s)) a z) where
-      pub quant_bad_2 : Bad ≡ seen (more_facts types) (length s) (read_more 3 (drop a s)) → Bad ≡ seen (facts rs types sc) (length s) (read_quant g q (drop at s))
+      pub quant_bad_2 : None ≡ seen (more_facts types) (length s) (read_more 3 (drop a s)) → None ≡ seen (facts rs types sc) (length s) (read_quant g q (drop at s))
       unfolding read_quant seen
       quant_bad_2 b = rw (v.is, miss (more_facts types) (length s) (read_more 3 (drop a s)) b)
 
       module _ (b : ℕ) (m : Facts) (vs : Hit (more_facts types) s a (read_more 3 (drop a s)) b m) where
-        pub quant_gap : begins (41 ∷ 32 ∷ []) (drop b s) ≡ false → Bad ≡ seen (facts rs types sc) (length s) (read_quant g q (drop at s))
+        pub quant_gap : begins (41 ∷ 32 ∷ []) (drop b s) ≡ false → None ≡ seen (facts rs types sc) (length s) (read_quant g q (drop at s))
         unfolding read_quant seen
         quant_gap e = rw (v.is, vs.is, want_no (41 ∷ 32 ∷ []) vs.got (drop b s) e)
 
@@ -478,7 +480,7 @@ module _ (rs : List Relation) (types sc : List (List ℕ)) (s : List ℕ) (at : 
         unfolding read_quant
         quant_at e = rw (v.is, vs.is, want_yes (41 ∷ 32 ∷ []) vs.got s b e)
 
-        pub quant_bad_3 : (around : List (List ℕ)) → begins (41 ∷ 32 ∷ []) (drop b s) ≡ true → Bad ≡ seen (facts rs types around) (length s) (g (drop (b + 2) s)) → Bad ≡ seen (facts rs types sc) (length s) (read_quant g q (drop at s))
+        pub quant_bad_3 : (around : List (List ℕ)) → begins (41 ∷ 32 ∷ []) (drop b s) ≡ true → None ≡ seen (facts rs types around) (length s) (g (drop (b + 2) s)) → None ≡ seen (facts rs types sc) (length s) (read_quant g q (drop at s))
         unfolding seen
         quant_bad_3 around e x = rw (quant_at e, miss (facts rs types around) (length s) (g (drop (b + 2) s)) x)
 
@@ -490,7 +492,7 @@ module _ (rs : List Relation) (types sc : List (List ℕ)) (s : List ℕ) (at : 
 
 -- ---- a literal
 module _ (rs : List Relation) (types sc : List (List ℕ)) (s : List ℕ) (at : ℕ) where
-  pub lit_no : begins (40 ∷ []) (drop at s) ≡ false → Bad ≡ seen (facts rs types sc) (length s) (read_lit (drop at s))
+  pub lit_no : begins (40 ∷ []) (drop at s) ≡ false → None ≡ seen (facts rs types sc) (length s) (read_lit (drop at s))
   unfolding read_lit seen
   lit_no e = rw (e, read_lit)
 
@@ -499,22 +501,22 @@ module _ (rs : List Relation) (types sc : List (List ℕ)) (s : List ℕ) (at : 
   lit_at e = rw (e, read_lit) (ap (λ (l : List ℕ). and_then (read_word false l) (λ n l1. and_then (want (32 ∷ []) n l1) (λ m l2. and_then (read_var l2) (λ v l3. and_then (read_vars (length l3) l3) (λ vs r. want close (literal m (v ∷ vs)) r))))) (drop-drop 1 at s))
 
   module _ (o : begins (40 ∷ []) (drop at s) ≡ true) where
-    pub lit_bad : Bad ≡ seen nought (length s) (read_word false (drop (at + 1) s)) → Bad ≡ seen (facts rs types sc) (length s) (read_lit (drop at s))
+    pub lit_bad : None ≡ seen nought (length s) (read_word false (drop (at + 1) s)) → None ≡ seen (facts rs types sc) (length s) (read_lit (drop at s))
     unfolding seen
     lit_bad b = rw (lit_at o, miss nought (length s) (read_word false (drop (at + 1) s)) b)
 
     module _ (a : ℕ) (z : Facts) (n : Hit nought s (at + 1) (read_word false (drop (at + 1) s)) a z) where
-      pub lit_gap : begins (32 ∷ []) (drop a s) ≡ false → Bad ≡ seen (facts rs types sc) (length s) (read_lit (drop at s))
+      pub lit_gap : begins (32 ∷ []) (drop a s) ≡ false → None ≡ seen (facts rs types sc) (length s) (read_lit (drop at s))
       unfolding seen
       lit_gap e = rw (lit_at o, n.is, want_no (32 ∷ []) n.got (drop a s) e)
 
       module _ (e : begins (32 ∷ []) (drop a s) ≡ true) where
-        pub lit_bad_2 : Bad ≡ seen (var_facts sc) (length s) (read_var (drop (a + 1) s)) → Bad ≡ seen (facts rs types sc) (length s) (read_lit (drop at s))
+        pub lit_bad_2 : None ≡ seen (var_facts sc) (length s) (read_var (drop (a + 1) s)) → None ≡ seen (facts rs types sc) (length s) (read_lit (drop at s))
         unfolding seen
         lit_bad_2 b = rw (lit_at o, n.is, want_yes (32 ∷ []) n.got s a e, miss (var_facts sc) (length s) (read_var (drop (a + 1) s)) b)
 
         module _ (b : ℕ) (y : Facts) (v : Hit (var_facts sc) s (a + 1) (read_var (drop (a + 1) s)) b y) where
-          pub lit_bad_3 : Bad ≡ seen (vars_facts sc) (length s) (read_vars (length s - b) (drop b s)) → Bad ≡ seen (facts rs types sc) (length s) (read_lit (drop at s))
+          pub lit_bad_3 : None ≡ seen (vars_facts sc) (length s) (read_vars (length s - b) (drop b s)) → None ≡ seen (facts rs types sc) (length s) (read_lit (drop at s))
           unfolding seen
           lit_bad_3 x = rw (lit_at o, n.is, want_yes (32 ∷ []) n.got s a e, v.is, length-drop b s, miss (vars_facts sc) (length s) (read_vars (length s - b) (drop b s)) x)
 
@@ -546,7 +548,7 @@ kind_other s at h = no_word (kind_of (drop at s)) (drop at s) (omega (arith, get
 
 -- ---- a formula, by its kind
 module _ (rs : List Relation) (types sc : List (List ℕ)) (s : List ℕ) (at k : ℕ) where
-  pub read_none : k ≡ 0 → Bad ≡ seen (facts rs types sc) (length s) (read k (drop at s))
+  pub read_none : k ≡ 0 → None ≡ seen (facts rs types sc) (length s) (read k (drop at s))
   unfolding read seen
   read_none q = rw q
 

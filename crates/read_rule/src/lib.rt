@@ -7,9 +7,10 @@ ghost use Rattle.definitions.specs.Lists.{same, any as any_of};
 ghost use Rattle.definitions.specs.Sheet.Formula.{Join, Quant, is_bound, totals};
 ghost use Rattle.definitions.specs.Sheet.Parsing.{begins, kind_of, is_other, first, inside, longest, span, read_word, read_var, read_vars, read_type, read_typed, read_more, read_parts, read_lit, read_neg, read_imp, read_join, read_quant, read};
 ghost use Rattle.read_names.specs.Signatures.{lent_of, all_of, chosen_of, types_in, types_of, NoFurther};
-ghost use Rattle.read_rule.specs.Seen.{total_of, join_of, head_of, seen, nought, shut_of, var_facts, vars_facts, typed_facts, more_facts, both_facts, one_more, quant_facts, fault_of, verdict_of, names, facts, facts_all, Grows, past_type, listed, verdict_number, rule_number, lit_facts};
+ghost use Rattle.read_rule.specs.Seen.{total_of, join_of, head_of, seen, nought, shut_of, var_facts, vars_facts, typed_facts, more_facts, both_facts, one_more, quant_facts, verdict_of, names, facts, facts_all, Grows, past_type, listed, fault_in, rule_number, lit_facts};
 
 use read_names::Signature;
+use refusal::Cause;
 
 // The form of a formula, by its first bytes.
 #[derive(Clone, Copy)]
@@ -34,12 +35,17 @@ pub struct Facts {
     pub typed: bool,
 }
 
-// What is found at a place: where it ends and what is said of it, or that it is not of its form.
-#[derive(Clone, Copy)]
-pub enum Scanned {
-    Ok(usize, Facts),
-    Bad,
-}
+// What is said before anything is read.
+const NOUGHT: Facts = Facts {
+    forms: 0,
+    fits: true,
+    known: true,
+    scoped: true,
+    typed: true,
+};
+
+// What is found at a place: where it ends and what is said of it, or none where it is not of its form.
+pub type Scanned = Option<(usize, Facts)>;
 
 // The variables bound around, outermost first, as spans of the text.
 #[derive(Clone, Copy)]
@@ -57,35 +63,12 @@ pub struct Grown {
     pub fresh: bool,
 }
 
-// The rule field's refusal: none, 5, 6, 7, 8 or 19.
-#[derive(Clone, Copy)]
-pub enum Verdict {
-    Fine,
-    NotOfForm,
-    TooLarge,
-    Unknown,
-    Unbound,
-    Undeclared,
-}
-
 // Does `s` go on with `p` at `at`.
 pub fn starts(s: &[u8], at: usize, p: &[u8]) -> bool
     requires { at ≤ length s.now }
     ensures { result ≡ begins p.now (drop at s.now) }
 {
-    let mut i = 0;
-    let mut j = at;
-    while i < p.len() {
-        if j >= s.len() {
-            return false;
-        }
-        if p[i] != s[j] {
-            return false;
-        }
-        i += 1;
-        j += 1;
-    }
-    true
+    s[at..].starts_with(p)
 }
 
 // Whether no form's word begins at `at`, by one byte alone: after its bracket each word has a small letter.
@@ -132,25 +115,16 @@ fn is_first(c: u8, var: bool) -> bool
     ensures { result ≡ first var c }
 {
     if var {
-        c >= 97 && c <= 122
+        c.is_ascii_lowercase()
     } else {
-        c >= 65 && c <= 90
+        c.is_ascii_uppercase()
     }
 }
 
 fn is_inside(c: u8, var: bool) -> bool
     ensures { result ≡ inside var c }
 {
-    if is_first(c, var) {
-        return true;
-    }
-    if c == 95 {
-        return true;
-    }
-    if c < 48 {
-        return false;
-    }
-    c <= 57
+    is_first(c, var) || c.is_ascii_digit() || c == b'_'
 }
 
 // Where the bytes that may stand inside a word end.
@@ -158,14 +132,12 @@ pub fn run(s: &[u8], from: usize, var: bool) -> usize
     requires { from ≤ length s.now }
     ensures { result ≡ from + span var (drop from s.now) }
 {
-    let mut i = from;
-    while i < s.len() {
+    for i in from..s.len() {
         if !is_inside(s[i], var) {
             return i;
         }
-        i += 1;
     }
-    i
+    s.len()
 }
 
 // A name, or the letters of a variable.
@@ -174,26 +146,17 @@ fn word(s: &[u8], at: usize, var: bool) -> Scanned
     ensures { result ≡ seen nought (length s.now) (read_word var (drop at s.now)) }
 {
     if at >= s.len() {
-        return Scanned::Bad;
+        return None;
     }
     if !is_first(s[at], var) {
-        return Scanned::Bad;
+        return None;
     }
     let end = run(s, at + 1, var);
     let most = longest_of(var);
     if end - at <= most {
-        Scanned::Ok(
-            end,
-            Facts {
-                forms: 0,
-                fits: true,
-                known: true,
-                scoped: true,
-                typed: true,
-            },
-        )
+        Some((end, NOUGHT))
     } else {
-        Scanned::Bad
+        None
     }
 }
 
@@ -208,20 +171,12 @@ pub fn is_bound(s: &[u8], a: usize, e: usize, sc: Scope) -> bool
     requires { sc.n ≤ 4 }
     ensures { result ≡ is_bound (names s.now sc) (slice a e s.now) }
 {
-    let mut i = 0;
-    while i < sc.n {
+    for i in 0..sc.n {
         if read_text::same_span(s, a, e, s, sc.from[i], sc.to[i]) {
             return true;
         }
-        i += 1;
     }
     false
-}
-
-fn and(a: bool, b: bool) -> bool
-    ensures { result ≡ (a && b) }
-{
-    if a { b } else { false }
 }
 
 // What is said of two parts together.
@@ -229,16 +184,12 @@ fn both(f: Facts, g: Facts) -> Facts
     requires { f.forms + g.forms < 2 ^ 64 }
     ensures { result ≡ both_facts f g }
 {
-    let fits = and(f.fits, g.fits);
-    let known = and(f.known, g.known);
-    let scoped = and(f.scoped, g.scoped);
-    let typed = and(f.typed, g.typed);
     Facts {
         forms: f.forms + g.forms,
-        fits,
-        known,
-        scoped,
-        typed,
+        fits: f.fits & g.fits,
+        known: f.known & g.known,
+        scoped: f.scoped & g.scoped,
+        typed: f.typed & g.typed,
     }
 }
 
@@ -250,7 +201,7 @@ fn variable(s: &[u8], at: usize) -> Scanned
     if starts(s, at, b"?") {
         word(s, at + 1, true)
     } else {
-        Scanned::Bad
+        None
     }
 }
 
@@ -259,23 +210,16 @@ pub fn var_at(s: &[u8], at: usize, sc: Scope) -> Scanned
     requires { (at ≤ length s.now) × (sc.n ≤ 4) }
     ensures { result ≡ seen (var_facts (names s.now sc)) (length s.now) (read_var (drop at s.now)) }
 {
-    let v = variable(s, at);
-    match v {
-        Scanned::Bad => Scanned::Bad,
-        Scanned::Ok(e, _) => {
-            let b = is_bound(s, at, e, sc);
-            Scanned::Ok(
-                e,
-                Facts {
-                    forms: 1,
-                    fits: true,
-                    known: true,
-                    scoped: b,
-                    typed: true,
-                },
-            )
-        }
-    }
+    let (e, _) = variable(s, at)?;
+    let scoped = is_bound(s, at, e, sc);
+    Some((
+        e,
+        Facts {
+            forms: 1,
+            scoped,
+            ..NOUGHT
+        },
+    ))
 }
 
 // At most `left` further variables, each after a space.
@@ -285,28 +229,18 @@ pub fn vars(s: &[u8], at: usize, left: usize, sc: Scope) -> Scanned
 {
     let mut i = at;
     let mut more = left;
-    let mut said = Facts {
-        forms: 0,
-        fits: true,
-        known: true,
-        scoped: true,
-        typed: true,
-    };
+    let mut said = NOUGHT;
+    // no count: how many follow is known once the last was read
     while starts(s, i, b" ") {
         if more == 0 {
-            return Scanned::Bad;
+            return None;
         }
-        let v = var_at(s, i + 1, sc);
-        match v {
-            Scanned::Bad => return Scanned::Bad,
-            Scanned::Ok(next, f) => {
-                said = both(said, f);
-                i = next;
-            }
-        }
+        let (next, f) = var_at(s, i + 1, sc)?;
+        said = both(said, f);
+        i = next;
         more -= 1;
     }
-    Scanned::Ok(i, said)
+    Some((i, said))
 }
 
 // Is the name from `a` to `e` a declared type's.
@@ -319,11 +253,7 @@ fn is_type(
 ) -> bool
     ensures { result ≡ any_of (λ t. same t (slice a e s.now)) (types_in s.now from.now to.now 8) }
 {
-    let f = read_names::type_named(s, from, to, read_names::TYPES, s, a, e);
-    match f {
-        read_text::Found::At(_) => true,
-        read_text::Found::Nowhere => false,
-    }
+    read_names::type_named(s, from, to, read_names::TYPES, s, a, e).is_some()
 }
 
 // What may follow a variable in a quantifier's list: a colon and a type.
@@ -337,34 +267,18 @@ fn type_at(
     ensures { (v : List ℕ) → result ≡ seen (typed_facts (types_in s.now from.now to.now 8)) (length s.now) (read_type v (drop at s.now)) }
 {
     if starts(s, at, b":") {
-        let w = word(s, at + 1, false);
-        match w {
-            Scanned::Bad => Scanned::Bad,
-            Scanned::Ok(e, _) => {
-                let declared = is_type(s, at + 1, e, from, to);
-                Scanned::Ok(
-                    e,
-                    Facts {
-                        forms: 1,
-                        fits: true,
-                        known: true,
-                        scoped: true,
-                        typed: declared,
-                    },
-                )
-            }
-        }
-    } else {
-        Scanned::Ok(
-            at,
+        let (e, _) = word(s, at + 1, false)?;
+        let typed = is_type(s, at + 1, e, from, to);
+        Some((
+            e,
             Facts {
                 forms: 1,
-                fits: true,
-                known: true,
-                scoped: true,
-                typed: true,
+                typed,
+                ..NOUGHT
             },
-        )
+        ))
+    } else {
+        Some((at, Facts { forms: 1, ..NOUGHT }))
     }
 }
 
@@ -378,11 +292,8 @@ fn typed_at(
     requires { at ≤ length s.now }
     ensures { result ≡ seen (typed_facts (types_in s.now from.now to.now 8)) (length s.now) (read_typed (drop at s.now)) }
 {
-    let v = variable(s, at);
-    match v {
-        Scanned::Bad => Scanned::Bad,
-        Scanned::Ok(e, _) => type_at(s, e, from, to),
-    }
+    let (e, _) = variable(s, at)?;
+    type_at(s, e, from, to)
 }
 
 // At most `left` further ones, each after a space.
@@ -398,28 +309,18 @@ fn typed_vars(
 {
     let mut i = at;
     let mut more = left;
-    let mut said = Facts {
-        forms: 0,
-        fits: true,
-        known: true,
-        scoped: true,
-        typed: true,
-    };
+    let mut said = NOUGHT;
+    // no count: how many follow is known once the last was read
     while starts(s, i, b" ") {
         if more == 0 {
-            return Scanned::Bad;
+            return None;
         }
-        let v = typed_at(s, i + 1, from, to);
-        match v {
-            Scanned::Bad => return Scanned::Bad,
-            Scanned::Ok(next, q) => {
-                said = both(said, q);
-                i = next;
-            }
-        }
+        let (next, q) = typed_at(s, i + 1, from, to)?;
+        said = both(said, q);
+        i = next;
         more -= 1;
     }
-    Scanned::Ok(i, said)
+    Some((i, said))
 }
 
 // The closing bracket.
@@ -428,9 +329,9 @@ pub fn shut(s: &[u8], at: usize, f: Facts) -> Scanned
     ensures { result ≡ shut_of s.now at f }
 {
     if starts(s, at, b")") {
-        Scanned::Ok(at + 1, f)
+        Some((at + 1, f))
     } else {
-        Scanned::Bad
+        None
     }
 }
 
@@ -441,10 +342,7 @@ fn shut_one(s: &[u8], at: usize, f: Facts) -> Scanned
 {
     let g = Facts {
         forms: 1 + f.forms,
-        fits: f.fits,
-        known: f.known,
-        scoped: f.scoped,
-        typed: f.typed,
+        ..f
     };
     shut(s, at, g)
 }
@@ -466,7 +364,7 @@ fn push(s: &[u8], g: Grown, a: usize, e: usize) -> Grown
     let n = old.n;
     if n < 4 {
         let b = is_bound(s, a, e, old);
-        let fresh = and(g.fresh, !b);
+        let fresh = g.fresh & !b;
         let mut sc = old;
         sc.from[n] = a;
         sc.to[n] = e;
@@ -505,6 +403,7 @@ pub fn grow(s: &[u8], at: usize, k: usize, g: Grown) -> Grown
     let mut i = at;
     let mut more = k;
     let mut grown = g;
+    // a count, but the names end early where the text does
     while more > 0 {
         if i >= s.len() {
             return grown;
@@ -532,13 +431,12 @@ fn shut_literal(
     requires { (at ≤ length s.now) × (m ≤ 13) }
     ensures { result ≡ shut_of s.now at (lit_facts (all_of s.now (lent_of from.now to.now arity.now m)) (slice a e s.now) f) }
 {
-    let k = read_names::known(s, from, to, arity, m, a, e, f.forms);
+    let known = read_names::known(s, from, to, arity, m, a, e, f.forms);
     let g = Facts {
         forms: 1,
-        fits: true,
-        known: k,
+        known,
         scoped: f.scoped,
-        typed: true,
+        ..NOUGHT
     };
     shut(s, at, g)
 }
@@ -548,16 +446,12 @@ fn shut_quant(s: &[u8], at: usize, l: Facts, g: Grown, f: Facts) -> Scanned
     requires { (at ≤ length s.now) × (l.forms + f.forms < 2 ^ 64) }
     ensures { result ≡ shut_of s.now at (quant_facts l g.fits g.fresh f) }
 {
-    let fits = and(g.fits, f.fits);
-    let new = and(g.fits, g.fresh);
-    let scoped = and(new, f.scoped);
-    let typed = and(l.typed, f.typed);
     let h = Facts {
         forms: l.forms + f.forms,
-        fits,
+        fits: g.fits & f.fits,
         known: f.known,
-        scoped,
-        typed,
+        scoped: g.fits & g.fresh & f.scoped,
+        typed: l.typed & f.typed,
     };
     shut(s, at, h)
 }
@@ -575,34 +469,17 @@ pub fn literal(
     requires { (at ≤ length s.now) × (m ≤ 13) × (sc.n ≤ 4) }
     ensures { result ≡ seen (facts (all_of s.now (lent_of from.now to.now arity.now m)) (types_in s.now from.now to.now 8) (names s.now sc)) (length s.now) (read_lit (drop at s.now)) }
 {
-    if starts(s, at, b"(") {
-        let n = word(s, at + 1, false);
-        match n {
-            Scanned::Bad => Scanned::Bad,
-            Scanned::Ok(a, _) => {
-                if starts(s, a, b" ") {
-                    let v = var_at(s, a + 1, sc);
-                    match v {
-                        Scanned::Bad => Scanned::Bad,
-                        Scanned::Ok(b, f) => {
-                            let vs = vars(s, b, s.len() - b, sc);
-                            match vs {
-                                Scanned::Bad => Scanned::Bad,
-                                Scanned::Ok(e, g) => {
-                                    let h = both(f, g);
-                                    shut_literal(s, e, at + 1, a, h, from, to, arity, m)
-                                }
-                            }
-                        }
-                    }
-                } else {
-                    Scanned::Bad
-                }
-            }
-        }
-    } else {
-        Scanned::Bad
+    if !starts(s, at, b"(") {
+        return None;
     }
+    let (a, _) = word(s, at + 1, false)?;
+    if !starts(s, a, b" ") {
+        return None;
+    }
+    let (b, f) = var_at(s, a + 1, sc)?;
+    let (e, g) = vars(s, b, s.len() - b, sc)?;
+    let h = both(f, g);
+    shut_literal(s, e, at + 1, a, h, from, to, arity, m)
 }
 
 // A formula at `at`, in which at most `room` brackets are open together.
@@ -621,7 +498,7 @@ pub fn scan(
     ensures { result ≡ seen (facts (all_of s.now (lent_of from.now to.now arity.now m)) (types_in s.now from.now to.now 8) (names s.now sc)) (length s.now) (read room (drop at s.now)) }
 {
     if room == 0 {
-        return Scanned::Bad;
+        return None;
     }
     let k = kind_at(s, at);
     match k {
@@ -651,11 +528,8 @@ fn negated(
     ensures { result ≡ seen (facts (all_of s.now (lent_of from.now to.now arity.now m)) (types_in s.now from.now to.now 8) (names s.now sc))
         (length s.now) (read_neg (read room) (drop at s.now)) }
 {
-    let f = scan(s, at, room, from, to, arity, m, sc);
-    match f {
-        Scanned::Bad => Scanned::Bad,
-        Scanned::Ok(a, n) => shut_one(s, a, n),
-    }
+    let (a, n) = scan(s, at, room, from, to, arity, m, sc)?;
+    shut_one(s, a, n)
 }
 
 // What follows `(implies `.
@@ -674,21 +548,12 @@ fn implied(
     ensures { result ≡ seen (facts (all_of s.now (lent_of from.now to.now arity.now m)) (types_in s.now from.now to.now 8) (names s.now sc))
         (length s.now) (read_imp (read room) (drop at s.now)) }
 {
-    let f = scan(s, at, room, from, to, arity, m, sc);
-    match f {
-        Scanned::Bad => Scanned::Bad,
-        Scanned::Ok(a, n) => {
-            if starts(s, a, b" ") {
-                let g = scan(s, a + 1, room, from, to, arity, m, sc);
-                match g {
-                    Scanned::Bad => Scanned::Bad,
-                    Scanned::Ok(b, w) => shut_two(s, b, n, w),
-                }
-            } else {
-                Scanned::Bad
-            }
-        }
+    let (a, n) = scan(s, at, room, from, to, arity, m, sc)?;
+    if !starts(s, a, b" ") {
+        return None;
     }
+    let (b, w) = scan(s, a + 1, room, from, to, arity, m, sc)?;
+    shut_two(s, b, n, w)
 }
 
 // What follows `(and ` or `(or `.
@@ -707,17 +572,9 @@ fn joined(
     ensures { (j : Join) → result ≡ seen (facts (all_of s.now (lent_of from.now to.now arity.now m)) (types_in s.now from.now to.now 8) (names s.now sc))
         (length s.now) (read_join (read room) j (drop at s.now)) }
 {
-    let f = scan(s, at, room, from, to, arity, m, sc);
-    match f {
-        Scanned::Bad => Scanned::Bad,
-        Scanned::Ok(a, n) => {
-            let fs = parts(s, a, room, s.len() - a, from, to, arity, m, sc);
-            match fs {
-                Scanned::Bad => Scanned::Bad,
-                Scanned::Ok(b, w) => shut_two(s, b, n, w),
-            }
-        }
-    }
+    let (a, n) = scan(s, at, room, from, to, arity, m, sc)?;
+    let (b, w) = parts(s, a, room, s.len() - a, from, to, arity, m, sc)?;
+    shut_two(s, b, n, w)
 }
 
 // At most `left` further parts, each after a space.
@@ -739,28 +596,18 @@ fn parts(
 {
     let mut i = at;
     let mut more = left;
-    let mut said = Facts {
-        forms: 0,
-        fits: true,
-        known: true,
-        scoped: true,
-        typed: true,
-    };
+    let mut said = NOUGHT;
+    // no count: how many follow is known once the last was read
     while starts(s, i, b" ") {
         if more == 0 {
-            return Scanned::Bad;
+            return None;
         }
-        let f = scan(s, i + 1, room, from, to, arity, m, sc);
-        match f {
-            Scanned::Bad => return Scanned::Bad,
-            Scanned::Ok(next, g) => {
-                said = both(said, g);
-                i = next;
-            }
-        }
+        let (next, g) = scan(s, i + 1, room, from, to, arity, m, sc)?;
+        said = both(said, g);
+        i = next;
         more -= 1;
     }
-    Scanned::Ok(i, said)
+    Some((i, said))
 }
 
 // What follows `(exists (` or `(forall (`.
@@ -779,35 +626,20 @@ fn bound(
     ensures { (q : Quant) → result ≡ seen (facts (all_of s.now (lent_of from.now to.now arity.now m)) (types_in s.now from.now to.now 8) (names s.now sc))
         (length s.now) (read_quant (read room) q (drop at s.now)) }
 {
-    let v = typed_at(s, at, from, to);
-    match v {
-        Scanned::Bad => Scanned::Bad,
-        Scanned::Ok(a, one) => {
-            let vs = typed_vars(s, a, 3, from, to);
-            match vs {
-                Scanned::Bad => Scanned::Bad,
-                Scanned::Ok(b, others) => {
-                    if starts(s, b, b") ") {
-                        let list = both(one, others);
-                        let none = Grown {
-                            scope: sc,
-                            fits: true,
-                            fresh: true,
-                        };
-                        let g = grow(s, at, list.forms, none);
-                        let inner = g.scope;
-                        let f = scan(s, b + 2, room, from, to, arity, m, inner);
-                        match f {
-                            Scanned::Bad => Scanned::Bad,
-                            Scanned::Ok(e, n) => shut_quant(s, e, list, g, n),
-                        }
-                    } else {
-                        Scanned::Bad
-                    }
-                }
-            }
-        }
+    let (a, one) = typed_at(s, at, from, to)?;
+    let (b, others) = typed_vars(s, a, 3, from, to)?;
+    if !starts(s, b, b") ") {
+        return None;
     }
+    let list = both(one, others);
+    let none = Grown {
+        scope: sc,
+        fits: true,
+        fresh: true,
+    };
+    let g = grow(s, at, list.forms, none);
+    let (e, n) = scan(s, b + 2, room, from, to, arity, m, g.scope)?;
+    shut_quant(s, e, list, g, n)
 }
 
 // How many totalities are added.
@@ -815,14 +647,12 @@ pub fn totalities(sig: Signature) -> usize
     requires { sig.rels + sig.chosen ≤ 12 }
     ensures { ((q : List ℕ) → result ≡ totals (chosen_of q sig)) × (result ≤ 12) }
 {
-    let mut i = sig.rels;
     let end = sig.rels + sig.chosen;
     let mut t = 0;
-    while i < end {
+    for i in sig.rels..end {
         let k = sig.kind[i];
         let one = total(k);
         t += one;
-        i += 1;
     }
     t
 }
@@ -847,61 +677,46 @@ fn joining(t: usize) -> usize
     if t == 0 { 0 } else { 1 }
 }
 
-// The refusal of the first of two tests that fails.
-fn first_fault(a: bool, x: Verdict, b: bool, y: Verdict) -> Verdict
-    ensures { verdict_number result ≡ fault_of a (verdict_number x) b (verdict_number y) }
-{
-    if !a {
-        return x;
-    }
-    if !b {
-        return y;
-    }
-    Verdict::Fine
-}
-
-// The tests in the order of their numbers.
-fn judge(f: Facts, t: usize) -> Verdict
+// The tests in the order of the refusals' numbers.
+fn judge(f: Facts, t: usize) -> Result<(), Cause>
     requires { (f.forms < 2 ^ 63) × (t ≤ 12) }
-    ensures { verdict_number result ≡ verdict_of f t }
+    ensures { fault_in result ≡ verdict_of f t }
 {
     let join = joining(t);
     if f.forms + 3 * t + join > 64 {
-        return Verdict::TooLarge;
+        return Err(Cause::TooManyForms);
     }
     if !f.fits {
-        return Verdict::TooLarge;
+        return Err(Cause::TooManyForms);
     }
     if !f.known {
-        return Verdict::Unknown;
+        return Err(Cause::Unknown);
     }
-    first_fault(f.scoped, Verdict::Unbound, f.typed, Verdict::Undeclared)
+    if !f.scoped {
+        return Err(Cause::BadVariable);
+    }
+    if !f.typed {
+        return Err(Cause::BadType);
+    }
+    Ok(())
 }
 
-// The refusal of the rule field from `at` to `end`.
-pub fn rule_verdict(text: &[u8], at: usize, end: usize, sig: Signature) -> Verdict
+// Why the rule field from `at` to `end` is refused, if it is.
+pub fn rule_verdict(text: &[u8], at: usize, end: usize, sig: Signature) -> Result<(), Cause>
     requires { (at ≤ end) × (end ≤ length text.now) × (sig.rels + sig.chosen ≤ 12) × (sig.every ≤ 1) × (sig.types ≤ 8) × NoFurther sig.to sig.types }
-    ensures { verdict_number result ≡ rule_number (all_of text.now sig) (types_of text.now sig) (chosen_of text.now sig) (slice at end text.now) }
+    ensures { fault_in result ≡ rule_number (all_of text.now sig) (types_of text.now sig) (chosen_of text.now sig) (slice at end text.now) }
 {
     let sc = Scope {
         from: [0; 4],
         to: [0; 4],
         n: 0,
     };
-    let from = sig.from;
-    let to = sig.to;
-    let arity = sig.arity;
     let m = sig.rels + sig.chosen + sig.every;
-    let f = scan(text, at, 128, &from, &to, &arity, m, sc);
-    match f {
-        Scanned::Bad => Verdict::NotOfForm,
-        Scanned::Ok(next, g) => {
-            if next == end {
-                let t = totalities(sig);
-                judge(g, t)
-            } else {
-                Verdict::NotOfForm
-            }
-        }
+    let Some((next, g)) = scan(text, at, 128, &sig.from, &sig.to, &sig.arity, m, sc) else {
+        return Err(Cause::NoFormula);
+    };
+    if next != end {
+        return Err(Cause::NoFormula);
     }
+    judge(g, totalities(sig))
 }

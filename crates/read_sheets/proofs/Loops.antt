@@ -1,5 +1,6 @@
 -- The loops over the lines of a site and of picks, and what is left where they are refused.
-use Rattle.std.specs.Prelude.{if◌then◌else◌}
+use Rattle.std.specs.Prelude.{if◌then◌else◌, Ok, Err}
+use Rattle.std.specs.Prelude as P
 use Prim.Native.Nat.{ℕ, zero, suc, ◌+◌, ◌*◌, ◌≤◌, ◌<◌, ◌/◌, ◌%◌}
 use mathlib.Core.Path.{◌≡◌, refl, sym, ap, subst, subst₂, ◌∙◌, fun_ext}
 use mathlib.Core.Bool.{Bool, true, false, not, ◌&&◌}
@@ -15,13 +16,12 @@ use Rattle.definitions.specs.Lists.{all, any, below, is_empty}
 use Rattle.definitions.specs.Refusal.{Result, refused, accepted, ◌>>=◌, refuse_if, given, read_text}
 use Rattle.definitions.specs.Sheet.Relations.{Tuple}
 use Rattle.definitions.specs.Sheet.Sheets as D
-use Rattle.bits.specs.Table.{digit, bit, paste, num, count}
+use Rattle.bits.specs.Table.{digit, bit, num, count}
 use Rattle.laws.specs.Booleans.{T_of, T_true, T_false, T_or, or_l, or_r, T_and_l}
 use Rattle.laws.specs.Lists.{all_at, all_of, mem_below, below_lt, zeros_at}
 use Rattle.laws.specs.Labels.{no_labels}
 use Rattle.laws.specs.Members.{no_members, has_member_lem}
 use Rattle.bits.proofs.Digit.{digit_of_zero}
-use Rattle.bits.proofs.Laws.{paste_in, bit_past, paste_out}
 use Rattle.read_line.specs.Lines.{line_by, read_at}
 use Rattle.read_line.specs.Entries.{entry_in, Reads}
 use Rattle.read_line.specs.declared.Entry.{Entry}
@@ -34,12 +34,12 @@ use Rattle.read_tuples.specs.Labels.{spanned, LabelsAre, NoLabels}
 use Rattle.read_tuples.specs.Members.{MembersAre, NoMembers}
 use Rattle.read_tuples.specs.Marks.{Roomy, bit_of, AllValid}
 use Rattle.read_tuples.proofs.Bits.{none_marked}
-use Rattle.read_sheets.specs.Reading.{answered, size_in, sized_of, draft, Facts, SoFar, end_of, SiteTurns, SiteTurned, GotSite, FactsIn, LabelsIn, MembersIn, Picks, PickTurns, PickTurned, GotPicks, PicksIn, SizeRoom}
+use Rattle.read_sheets.specs.Reading.{sized_of, draft, Facts, SoFar, end_of, SiteTurns, SiteTurned, GotSite, SiteRead, Picks, PickTurns, PickTurned, GotPicks, PicksRead, SizeRoom, Cleared}
 use Rattle.read_sheets.specs.declared.Stage.{Stage}
-use Rattle.read_sheets.specs.declared.Turn.{Turn}
-use Rattle.read_sheets.specs.declared.Turn.TheVariants.{Next, Fault}
-use Rattle.read_sheets.specs.declared.Answer.{Answer}
-use Rattle.read_sheets.specs.declared.Answer.TheVariants.{Done, Refused}
+use Rattle.refusal.specs.declared.Cause.{Cause}
+use Rattle.refusal.specs.declared.Cause.TheVariants.{OutOfOrder, BadType}
+use Rattle.refusal.specs.declared.Refusal.{Refusal}
+use Rattle.refusal.specs.Numbers.{number_of}
 use Rattle.read_sheets.proofs.Turns.{first_size, sized_stays, sized_after}
 
 -- ---- a site
@@ -126,15 +126,15 @@ each_fails p k n h e = T_false (all p (below n)) (λ t. not_both (p k) (all_at p
 
 -- how a site ends, by the tests
 module _ (n end : ℕ) (each : Bool) where
-  pub end_none : n ≡ 0 → Refused 3 end ≡ end_of n each end
+  pub end_none : n ≡ 0 → Err (record { cause = OutOfOrder; place = end }) ≡ end_of n each end
   unfolding end_of
   end_none h = rw (eq-eqb n 0 h)
 
-  pub end_each : (n ≡ 0 → ⊥) → each ≡ true → Done n ≡ end_of n each end
+  pub end_each : (n ≡ 0 → ⊥) → each ≡ true → Ok n ≡ end_of n each end
   unfolding end_of
   end_each h e = rw (ne_eqb n 0 h, e)
 
-  pub end_missing : (n ≡ 0 → ⊥) → each ≡ false → Refused 19 0 ≡ end_of n each end
+  pub end_missing : (n ≡ 0 → ⊥) → each ≡ false → Err (record { cause = BadType; place = 0 }) ≡ end_of n each end
   unfolding end_of
   end_missing h e = rw (ne_eqb n 0 h, e)
 
@@ -157,13 +157,9 @@ module _ (L : CaseLimits) (q : List ℕ) (g : Signature) (s : List ℕ) where
   SiteAt at st words joins table =
       (labels : List D.Label) × (members : List D.Member) × (facts : List Tuple) × (site_read ≡ (read_at add s at (draft st.n labels members facts) >>= shut)) × SoFar L g s st labels members facts words joins (bit table)
 
-  site_refused : (k place : ℕ) (words joins : List ℕ) (p : ℕ → Bool) → site_read ≡ refused k place → GotSite L g s site_read (Refused k place) words joins p
-  unfolding GotSite
-  site_refused k place words joins p e = rw e refl
-
-  pub site_long : (words joins : List ℕ) (p : ℕ → Bool) → text_limit < length s → GotSite L g s site_read (Refused 1 0) words joins p
+  pub site_long : text_limit < length s → site_read ≡ refused 1 0
   unfolding ◌>>=◌
-  site_long words joins p h = site_refused 1 0 words joins p (site_by ∙ ap (λ (r : Result D.SiteDraft). r >>= shut) (read_long add s (draft 0 [] [] []) h))
+  site_long h = site_by ∙ ap (λ (r : Result D.SiteDraft). r >>= shut) (read_long add s (draft 0 [] [] []) h)
 
   pub site_start : (words joins table : List ℕ) → length s ≤ text_limit → NoLabels words → NoMembers joins → bit table ≡ (λ i. false) → SiteAt 0 (record { n = 0; joined = false; begun = false }) words joins table
   unfolding SiteAt SoFar Facts AllValid is_empty
@@ -184,25 +180,25 @@ module _ (L : CaseLimits) (q : List ℕ) (g : Signature) (s : List ℕ) where
     unfolding SiteAt SoFar
     labels_so_far = (w.0, w.4.1)
 
-    module _ (next : ℕ) (x : Entry) (l : Reads s at next x) (words' joins' new : List ℕ) (t : Turn) (u : SiteTurned L q g s st x words words' joins joins' table new t) where
+    module _ (next : ℕ) (x : Entry) (l : Reads s at next x) (words' joins' new : List ℕ) (t : P.Result Stage Cause) (u : SiteTurned L q g s st x words words' joins joins' table new t) where
       added : Stage → List D.Label → List D.Member → List Tuple → Result D.SiteDraft
       added st labels members facts = given (entry_in s x) 2 at >>= add (draft st.n labels members facts) at
 
-      turned : (t' : Turn) → t ≡ t' → (labels : List D.Label) (members : List D.Member) (facts : List Tuple) → SoFar L g s st labels members facts words joins (bit table) → SiteTurns L g s (added st labels members facts) at t' words' joins' (bit new)
+      turned : (t' : P.Result Stage Cause) → t ≡ t' → (labels : List D.Label) (members : List D.Member) (facts : List Tuple) → SoFar L g s st labels members facts words joins (bit table) → SiteTurns L g s (added st labels members facts) at t' words' joins' (bit new)
       unfolding SiteTurned added
-      turned t' p labels members facts v = subst (λ (t : Turn). SiteTurns L g s (given (entry_in s x) 2 at >>= add (draft st.n labels members facts) at) at t words' joins' (bit new)) p (u at labels members facts v)
+      turned t' p labels members facts v = subst (λ (t : P.Result Stage Cause). SiteTurns L g s (given (entry_in s x) 2 at >>= add (draft st.n labels members facts) at) at t words' joins' (bit new)) p (u at labels members facts v)
 
-      module _ (st' : Stage) (p : t ≡ Next st') where
+      module _ (st' : Stage) (p : t ≡ Ok st') where
         pub site_next : SiteAt next st' words' joins' new
         unfolding SiteAt SiteTurns added
         site_next =
-            let v = turned (Next st') p w.0 w.1 w.2 w.4 in
+            let v = turned (Ok st') p w.0 w.1 w.2 w.4 in
             (v.0, v.1, v.2, w.3 ∙ ap (λ (r : Result D.SiteDraft). r >>= shut) (read_went add s at next (draft st.n w.0 w.1 w.2) x l (draft st'.n v.0 v.1 v.2) v.3), v.4)
 
         -- after a line that goes on there is a size
         pub some_next : st'.n ≡ 0 → ⊥
         unfolding SiteAt SiteTurns added
-        some_next z = let v = turned (Next st') p w.0 w.1 w.2 w.4 in sized_after L q g s x at st.n st'.n w.0 v.0 w.1 v.1 w.2 v.2 v.3 z
+        some_next z = let v = turned (Ok st') p w.0 w.1 w.2 w.4 in sized_after L q g s x at st.n st'.n w.0 v.0 w.1 v.1 w.2 v.2 v.3 z
 
         -- so a table that has room for the size that is said, if the line is the first one, has room from then on
         pub room_next : (room most : ℕ) → L.elements ≡ most → SizeRoom s g most room → (st.n ≡ 0 → at ≡ 0) → ((st.n ≡ 0 → ⊥) → Roomy g.from g.to g.arity 0 g.rels st.n room)
@@ -210,8 +206,8 @@ module _ (L : CaseLimits) (q : List ℕ) (g : Signature) (s : List ℕ) where
         unfolding SiteAt SiteTurns SoFar Facts added
         room_next room most e k z h = by_number st.n refl
           where
-            v : SiteTurns L g s (added st w.0 w.1 w.2) at (Next st') words' joins' (bit new)
-            v = turned (Next st') p w.0 w.1 w.2 w.4
+            v : SiteTurns L g s (added st w.0 w.1 w.2) at (Ok st') words' joins' (bit new)
+            v = turned (Ok st') p w.0 w.1 w.2 w.4
 
             said : st.n ≡ 0 → x ≡ Size st'.n
             said a = first_size L q g s x at st'.n w.0 v.0 w.1 v.1 w.2 v.2 (subst (λ (j : ℕ). (given (entry_in s x) 2 at >>= add (draft j w.0 w.1 w.2) at) ≡ accepted (draft st'.n v.0 v.1 v.2)) a v.3)
@@ -223,10 +219,9 @@ module _ (L : CaseLimits) (q : List ℕ) (g : Signature) (s : List ℕ) where
                 same_size : st.n ≡ suc j → st.n ≡ st'.n
                 same_size a = sized_stays L q g s x at st.n st'.n w.0 v.0 w.1 v.1 w.2 v.2 (λ b. absurd (omega arith)) v.3
 
-      pub site_fault : (k : ℕ) (kept kept' : List ℕ) (p : ℕ → Bool) → t ≡ Fault k → GotSite L g s site_read (Refused k at) kept kept' p
+      pub site_fault : (k : Cause) → t ≡ Err k → site_read ≡ refused (number_of k) at
       unfolding SiteAt SiteTurns ◌>>=◌ added
-      site_fault k kept kept' p e =
-          site_refused k at kept kept' p (w.3 ∙ ap (λ (r : Result D.SiteDraft). r >>= shut) (read_halted add s at next (draft st.n w.0 w.1 w.2) x l k at (turned (Fault k) e w.0 w.1 w.2 w.4)))
+      site_fault k e = w.3 ∙ ap (λ (r : Result D.SiteDraft). r >>= shut) (read_halted add s at next (draft st.n w.0 w.1 w.2) x l (number_of k) at (turned (Err k) e w.0 w.1 w.2 w.4))
 
     module _ (e : at ≡ length s) where
       ended : (labels : List D.Label) (members : List D.Member) (facts : List Tuple) → site_read ≡ (read_at add s at (draft st.n labels members facts) >>= shut) → site_read ≡ shut (draft st.n labels members facts)
@@ -249,9 +244,9 @@ module _ (L : CaseLimits) (q : List ℕ) (g : Signature) (s : List ℕ) where
       closed_some zero labels members facts h b = absurd (h refl)
       closed_some (suc m) labels members facts h b = rw b
 
-      pub site_end : (r : Answer) → ((ms : List D.Member) → MembersAre joins g.types st.n ms → r ≡ end_of st.n (all (D.has_member ms) (below g.types)) (length s)) → GotSite L g s site_read r words joins (bit table)
-      unfolding SiteAt SoFar Facts end_of GotSite types_of
-      site_end r f = subst (λ (a : Answer). GotSite L g s site_read a words joins (bit table)) (sym (f w.1 w.4.3)) (by_number st.n refl (eqb st.n 0) refl (all (D.has_member w.1) (below g.types)) refl)
+      pub site_end : (r : P.Result ℕ Refusal) → ((ms : List D.Member) → MembersAre joins g.types st.n ms → r ≡ end_of st.n (all (D.has_member ms) (below g.types)) (length s)) → GotSite L g s site_read r words joins (bit table)
+      unfolding SiteAt SoFar Facts end_of types_of
+      site_end r f = subst (λ (a : P.Result ℕ Refusal). GotSite L g s site_read a words joins (bit table)) (sym (f w.1 w.4.3)) (by_number st.n refl (eqb st.n 0) refl (all (D.has_member w.1) (below g.types)) refl)
         where
           its_types : (b : Bool) → all (D.has_member w.1) (below g.types) ≡ b → all (D.has_member w.1) (below (length (types_of q g))) ≡ b
           its_types b h = ap (λ (k : ℕ). all (D.has_member w.1) (below k)) (length_names q g.from g.to 13 g.types) ∙ h
@@ -261,12 +256,14 @@ module _ (L : CaseLimits) (q : List ℕ) (g : Signature) (s : List ℕ) where
           at_least (suc n) h = omega arith
 
           by_number : (n : ℕ) → st.n ≡ n → (z : Bool) → eqb st.n 0 ≡ z → (b : Bool) → all (D.has_member w.1) (below g.types) ≡ b
-              → GotSite L g s site_read (if z then Refused 3 (length s) else if b then Done st.n else Refused 19 0) words joins (bit table)
-          by_number n a true z b h = site_refused 3 (length s) words joins (bit table) (ended w.0 w.1 w.2 w.3 ∙ closed_none st.n w.0 w.1 w.2 (eqb-true st.n 0 z))
-          by_number n a false z false h = site_refused 19 0 words joins (bit table) (ended w.0 w.1 w.2 w.3 ∙ closed_missing st.n w.0 w.1 w.2 (eqb-false st.n 0 z) (its_types false h))
-          by_number n a false z true h =
-              rw (ended w.0 w.1 w.2 w.3 ∙ closed_some st.n w.0 w.1 w.2 (eqb-false st.n 0 z) (its_types true h))
-              (refl, w.4.0.1, w.4.0.2, at_least st.n (eqb-false st.n 0 z), w.4.0.0, w.4.1, w.4.3)
+              → GotSite L g s site_read (if z then Err (record { cause = OutOfOrder; place = length s }) else if b then Ok st.n else Err (record { cause = BadType; place = 0 })) words joins (bit table)
+          by_number n a true z b h = ended w.0 w.1 w.2 w.3 ∙ closed_none st.n w.0 w.1 w.2 (eqb-true st.n 0 z)
+          by_number n a false z false h = ended w.0 w.1 w.2 w.3 ∙ closed_missing st.n w.0 w.1 w.2 (eqb-false st.n 0 z) (its_types false h)
+          by_number n a false z true h = (
+            record { site = record { size = st.n; members = w.1; facts = w.2 }; labels = w.0 },
+            ended w.0 w.1 w.2 w.3 ∙ closed_some st.n w.0 w.1 w.2 (eqb-false st.n 0 z) (its_types true h),
+            (refl, w.4.0.1, w.4.0.2, at_least st.n (eqb-false st.n 0 z), w.4.0.0, w.4.1, w.4.3),
+          )
 
 -- ---- picks
 
@@ -278,37 +275,33 @@ module _ (q : List ℕ) (g : Signature) (n : ℕ) (ls : List D.Label) (s : List 
   unfoldable pub PicksAt : ℕ → ℕ → List ℕ → Type 0
   PicksAt at k table = (picks : List Tuple) × (D.read_picks (chosen_of q g) (5 + g.rels) n ls s ≡ read_at (D.add_to_picks (chosen_of q g) (5 + g.rels) n ls) s at picks) × Picks g n picks (bit table) × (length picks ≡ k)
 
-  picks_refused : (j place : ℕ) (p : ℕ → Bool) → D.read_picks (chosen_of q g) (5 + g.rels) n ls s ≡ refused j place → GotPicks g n (D.read_picks (chosen_of q g) (5 + g.rels) n ls s) (Refused j place) p
-  unfolding GotPicks
-  picks_refused j place p e = rw e refl
-
-  pub picks_long : (p : ℕ → Bool) → text_limit < length s → GotPicks g n (D.read_picks (chosen_of q g) (5 + g.rels) n ls s) (Refused 1 0) p
-  picks_long p h = picks_refused 1 0 p (picks_by ∙ read_long (D.add_to_picks (chosen_of q g) (5 + g.rels) n ls) s [] h)
+  pub picks_long : text_limit < length s → D.read_picks (chosen_of q g) (5 + g.rels) n ls s ≡ refused 1 0
+  picks_long h = picks_by ∙ read_long (D.add_to_picks (chosen_of q g) (5 + g.rels) n ls) s [] h
 
   pub picks_start : (table : List ℕ) → length s ≤ text_limit → bit table ≡ (λ i. false) → PicksAt 0 0 table
   unfolding PicksAt Picks AllValid
   picks_start table h b = ([], picks_by ∙ read_start (D.add_to_picks (chosen_of q g) (5 + g.rels) n ls) s [] h, (b ∙ none_marked (bit_of g n g.rels), tt), refl)
 
   module _ (at k : ℕ) (table : List ℕ) (w : PicksAt at k table) where
-    module _ (next : ℕ) (x : Entry) (l : Reads s at next x) (new : List ℕ) (c : ℕ) (u : PickTurned q g s n ls x table new c) where
-      pub picks_next : c ≡ 0 → PicksAt next (k + 1) new
+    module _ (next : ℕ) (x : Entry) (l : Reads s at next x) (new : List ℕ) (c : P.Result (Unit {0}) Cause) (u : PickTurned q g s n ls x table new c) where
+      turned_to : (c' : P.Result (Unit {0}) Cause) → c ≡ c' → (picks : List Tuple) → Picks g n picks (bit table)
+          → PickTurns g n picks (given (entry_in s x) 2 at >>= D.add_to_picks (chosen_of q g) (5 + g.rels) n ls picks at) at c' (bit new)
+      unfolding PickTurned
+      turned_to c' p picks v = subst (λ (c : P.Result (Unit {0}) Cause). PickTurns g n picks (given (entry_in s x) 2 at >>= D.add_to_picks (chosen_of q g) (5 + g.rels) n ls picks at) at c (bit new)) p (u at picks v)
+
+      pub picks_next : c ≡ Ok tt → PicksAt next (k + 1) new
       unfolding PicksAt PickTurned PickTurns
       picks_next p =
-          let v = subst (λ (c : ℕ). PickTurns g n w.0 (given (entry_in s x) 2 at >>= D.add_to_picks (chosen_of q g) (5 + g.rels) n ls w.0 at) at c (bit new)) p (u at w.0 w.2) in
+          let v = turned_to (Ok tt) p w.0 w.2 in
           (v.0, w.1 ∙ read_went (D.add_to_picks (chosen_of q g) (5 + g.rels) n ls) s at next w.0 x l v.0 v.1, v.2, v.3 ∙ ap (λ (j : ℕ). j + 1) w.3)
 
-      turn_fault : (j : ℕ) (ts : List Tuple) (res : Result (List Tuple)) (p : ℕ → Bool) → (j ≡ 0 → ⊥) → PickTurns g n ts res at j p → res ≡ refused j at
-      unfolding PickTurns
-      turn_fault zero ts res p h v = absurd (h refl)
-      turn_fault (suc j) ts res p h v = v
+      pub picks_fault : (k : Cause) → c ≡ Err k → D.read_picks (chosen_of q g) (5 + g.rels) n ls s ≡ refused (number_of k) at
+      unfolding PicksAt PickTurns
+      picks_fault k p = w.1 ∙ read_halted (D.add_to_picks (chosen_of q g) (5 + g.rels) n ls) s at next w.0 x l (number_of k) at (turned_to (Err k) p w.0 w.2)
 
-      pub picks_fault : (p : ℕ → Bool) → (c ≡ 0 → ⊥) → GotPicks g n (D.read_picks (chosen_of q g) (5 + g.rels) n ls s) (Refused c at) p
-      unfolding PicksAt PickTurned
-      picks_fault p h = picks_refused c at p (w.1 ∙ read_halted (D.add_to_picks (chosen_of q g) (5 + g.rels) n ls) s at next w.0 x l c at (turn_fault c w.0 _ (bit new) h (u at w.0 w.2)))
-
-    pub picks_done : at ≡ length s → GotPicks g n (D.read_picks (chosen_of q g) (5 + g.rels) n ls s) (Done k) (bit table)
-    unfolding GotPicks PicksAt
-    picks_done e = rw (w.1 ∙ read_stop (D.add_to_picks (chosen_of q g) (5 + g.rels) n ls) s at w.0 e) (ap Done (sym w.3), w.2)
+    pub picks_done : at ≡ length s → GotPicks g n (D.read_picks (chosen_of q g) (5 + g.rels) n ls s) (Ok k) (bit table)
+    unfolding PicksAt
+    picks_done e = (w.0, w.1 ∙ read_stop (D.add_to_picks (chosen_of q g) (5 + g.rels) n ls) s at w.0 e, sym w.3, w.2)
 
 -- ---- a cleared table
 
@@ -325,44 +318,13 @@ no_member_words = record { room = refl; none_set = zeros_clear 8 }
 
 -- ---- what is left
 
--- a table all of whose words are cleared
-pub all_cleared : (t : List ℕ) (p : ℕ → Bool) → p ≡ paste (bit t) 0 (λ i. false) 0 (64 * length t) → p ≡ λ i. false
-all_cleared t p e = e ∙ fun_ext (λ i. by_number i (dec_lt i (64 * length t)))
-  where
-    by_number : (i : ℕ) → Dec (i < 64 * length t) → paste (bit t) 0 (λ i. false) 0 (64 * length t) i ≡ false
-    by_number i (yes h) = paste_in (bit t) 0 (λ i. false) 0 (64 * length t) i (omega arith) (omega arith)
-    by_number i (no h) = paste_out (bit t) 0 (λ i. false) 0 (64 * length t) i (λ b. omega (arith, b.1)) ∙ bit_past t i (omega arith)
+-- what was got, once the table is cleared where it is refused
+pub site_kept : (L : CaseLimits) (g : Signature) (s : List ℕ) (x : Result D.Labelled) (r : P.Result ℕ Refusal) (words joins old new : List ℕ)
+    → GotSite L g s x r words joins (bit old) → Cleared r old new → SiteRead L g s x r words joins (bit new)
+site_kept L g s x (Ok n) words joins old new h c = rw c h
+site_kept L g s x (Err e) words joins old new h c = (h, c)
 
-module _ (L : CaseLimits) (g : Signature) (s : List ℕ) (r : Result D.Labelled) (a : Answer) (words joins : List ℕ) (p : ℕ → Bool) where
-  pub site_kept : (n : ℕ) → a ≡ Done n → GotSite L g s r a words joins p → (Done n ≡ answered size_in r) × FactsIn L g r p × LabelsIn s r words × MembersIn g r joins
-  unfolding GotSite answered size_in FactsIn LabelsIn MembersIn
-  site_kept n e w = by_result r w
-    where
-      by_result : (r : Result D.Labelled) → GotSite L g s r a words joins p → (Done n ≡ answered size_in r) × FactsIn L g r p × LabelsIn s r words × MembersIn g r joins
-      by_result (refused k place) w = let z : ◌≡◌ {A = ℕ} 0 1 = cc in absurd (omega arith)
-      by_result (accepted st) w = (sym e ∙ w.0, (w.1, w.2, w.3, w.4), w.5, w.6)
-
-  pub site_cleared : (new : ℕ → Bool) (k place : ℕ) → a ≡ Refused k place → GotSite L g s r a words joins p → new ≡ (λ i. false) → (Refused k place ≡ answered size_in r) × FactsIn L g r new × LabelsIn s r words × MembersIn g r joins
-  unfolding GotSite answered size_in FactsIn LabelsIn MembersIn
-  site_cleared new k place e w z = by_result r w
-    where
-      by_result : (r : Result D.Labelled) → GotSite L g s r a words joins p → (Refused k place ≡ answered size_in r) × FactsIn L g r new × LabelsIn s r words × MembersIn g r joins
-      by_result (refused j at) w = (sym e ∙ w, z, tt, tt)
-      by_result (accepted st) w = let y : ◌≡◌ {A = ℕ} 0 1 = cc in absurd (omega arith)
-
-module _ (g : Signature) (n : ℕ) (r : Result (List Tuple)) (a : Answer) (p : ℕ → Bool) where
-  pub picks_kept : (k : ℕ) → a ≡ Done k → GotPicks g n r a p → (Done k ≡ answered length r) × PicksIn g n r p
-  unfolding GotPicks answered PicksIn
-  picks_kept k e w = by_result r w
-    where
-      by_result : (r : Result (List Tuple)) → GotPicks g n r a p → (Done k ≡ answered length r) × PicksIn g n r p
-      by_result (refused j place) w = let z : ◌≡◌ {A = ℕ} 0 1 = cc in absurd (omega arith)
-      by_result (accepted ts) w = (sym e ∙ w.0, w.1)
-
-  pub picks_cleared : (new : ℕ → Bool) (k place : ℕ) → a ≡ Refused k place → GotPicks g n r a p → new ≡ (λ i. false) → (Refused k place ≡ answered length r) × PicksIn g n r new
-  unfolding GotPicks answered PicksIn
-  picks_cleared new k place e w z = by_result r w
-    where
-      by_result : (r : Result (List Tuple)) → GotPicks g n r a p → (Refused k place ≡ answered length r) × PicksIn g n r new
-      by_result (refused j at) w = (sym e ∙ w, z)
-      by_result (accepted ts) w = let y : ◌≡◌ {A = ℕ} 0 1 = cc in absurd (omega arith)
+pub picks_kept : (g : Signature) (n : ℕ) (x : Result (List Tuple)) (r : P.Result ℕ Refusal) (old new : List ℕ)
+    → GotPicks g n x r (bit old) → Cleared r old new → PicksRead g n x r (bit new)
+picks_kept g n x (Ok k) old new h c = rw c h
+picks_kept g n x (Err e) old new h c = (h, c)

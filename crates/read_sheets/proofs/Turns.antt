@@ -1,5 +1,6 @@
 -- One line of a site and of picks.
-use Rattle.std.specs.Prelude.{if◌then◌else◌}
+use Rattle.std.specs.Prelude.{if◌then◌else◌, Ok, Err}
+use Rattle.std.specs.Prelude as P
 use Prim.Native.Nat.{ℕ, zero, suc, ◌+◌, ◌*◌, ◌^◌, ◌≤◌, ◌<◌}
 use mathlib.Core.Path.{◌≡◌, refl, sym, ap, ap₂, subst, ◌∙◌}
 use mathlib.Core.Bool.{Bool, true, false, not, ◌||◌}
@@ -22,6 +23,8 @@ use Rattle.definitions.specs.Sheet.Sheets as D
 use Rattle.laws.specs.Results.{refused_accepted, accepted_eq, bind_parts, not_refused}
 use Rattle.laws.specs.Lists.{none_some, some_eq}
 use Rattle.bits.specs.Table.{bit}
+use Rattle.refusal.specs.declared.Cause.{Cause}
+use Rattle.refusal.specs.declared.Cause.TheVariants.{NoRecord, OutOfOrder, OutOfRange}
 use Rattle.read_line.specs.Entries.{Fielded, entry_in, element_by, list_of, InText}
 use Rattle.read_line.specs.declared.Places.{Places}
 use Rattle.read_line.specs.declared.Entry.{Entry}
@@ -34,17 +37,8 @@ use Rattle.read_tuples.proofs.Words.{words_most}
 use Rattle.read_tuples.specs.Labels.{LabelsAre, LabelAdds, LabelAdded}
 use Rattle.read_tuples.specs.Members.{MembersAre, member_draft, MemberAdds, MemberAdded}
 use Rattle.read_tuples.specs.Marks.{Arrays, Roomy, bit_of, marks, AllValid, Adds, Added}
-use Rattle.read_sheets.specs.Reading.{FewArities, sized_of, draft, Facts, SoFar, size_turn, label_out, member_out, after_of, SiteTurns, SiteTurned, Picks, PickTurns, PickTurned}
+use Rattle.read_sheets.specs.Reading.{FewArities, sized_of, draft, Facts, SoFar, size_turn, label_out, member_out, SiteTurns, SiteTurned, Picks, PickTurns, PickTurned}
 use Rattle.read_sheets.specs.declared.Stage.{Stage}
-use Rattle.read_sheets.specs.declared.Turn.{Turn}
-use Rattle.read_sheets.specs.declared.Turn.TheVariants.{Next, Fault}
-
--- a tuple that was refused
-adds_fault : (q : List ℕ) (g : Signature) (lo m n : ℕ) (ls : List D.Label) (name : List ℕ) (es : List D.Element) (ts : List Tuple) (at : ℕ) (new : List ℕ) (k : ℕ) → (k ≡ 0 → ⊥) → Adds q g lo m n ls name es ts at new k
-    → D.add_tuple (relations_from q g lo m) (5 + lo) n ls ts at name es ≡ refused k at
-unfolding Adds
-adds_fault q g lo m n ls name es ts at new zero h v = absurd (h refl)
-adds_fault q g lo m n ls name es ts at new (suc k) h v = v
 
 -- the arities of a question's signature, and its arrays
 pub sound_few : (q : List ℕ) (g : Signature) (lo m : ℕ) → SoundSignature q g → lo + m ≤ g.rels + g.chosen → FewArities lo m g.arity
@@ -69,26 +63,26 @@ picks_room_lem q g s k room h = room_of q g s g.rels g.chosen 4 k room (omega ar
 
 -- its size, by the tests
 module _ (k most : ℕ) (st : Stage) where
-  pub turn_again : (st.n ≡ 0 → ⊥) → Fault 3 ≡ size_turn k most st
+  pub turn_again : (st.n ≡ 0 → ⊥) → Err OutOfOrder ≡ size_turn k most st
   unfolding size_turn
   turn_again h = rw (ne_eqb st.n 0 h)
 
   module _ (h : st.n ≡ 0) where
-    pub turn_low : k < 1 → Fault 9 ≡ size_turn k most st
+    pub turn_low : k < 1 → Err OutOfRange ≡ size_turn k most st
     unfolding size_turn is_between
     turn_low l = rw (eq-eqb st.n 0 h, lt-leb 1 k l)
 
-    pub turn_high : 1 ≤ k → most < k → Fault 9 ≡ size_turn k most st
+    pub turn_high : 1 ≤ k → most < k → Err OutOfRange ≡ size_turn k most st
     unfolding size_turn is_between
     turn_high l m = rw (eq-eqb st.n 0 h, le-leb 1 k l, lt-leb k most m)
 
-    pub turn_sized : 1 ≤ k → k ≤ most → Next (record { n = k; joined = st.joined; begun = st.begun }) ≡ size_turn k most st
+    pub turn_sized : 1 ≤ k → k ≤ most → Ok (record { n = k; joined = st.joined; begun = st.begun }) ≡ size_turn k most st
     unfolding size_turn is_between
     turn_sized l m = rw (eq-eqb st.n 0 h, le-leb 1 k l, le-leb k most m)
 
 -- whether a line may stand there, by the tests
 module _ (st : Stage) where
-  pub member_begun : st.begun ≡ true → true ≡ member_out st
+  pub member_begun : st.begun ≡ true → st.begun ≡ member_out st
   unfolding member_out
   member_begun e = rw e
 
@@ -96,23 +90,13 @@ module _ (st : Stage) where
   unfolding member_out
   member_sized b e z = rw e z
 
-  pub label_joined : st.joined ≡ true → true ≡ label_out st
+  pub label_joined : st.joined ≡ true → st.joined ≡ label_out st
   unfolding label_out
   label_joined e = rw e
 
   pub label_unjoined : (b : Bool) → st.joined ≡ false → b ≡ member_out st → b ≡ label_out st
   unfolding label_out member_out
   label_unjoined b e z = rw e z
-
-pub after_none : (c : ℕ) (st : Stage) → c ≡ 0 → Next st ≡ after_of c st
-unfolding after_of
-after_none zero st e = refl
-after_none (suc c) st e = absurd (omega arith)
-
-pub after_some : (c : ℕ) (st : Stage) → (c ≡ 0 → ⊥) → Fault c ≡ after_of c st
-unfolding after_of
-after_some zero st h = absurd (h refl)
-after_some (suc c) st h = refl
 
 -- labels of n elements are labels of more
 labels_more : (s words : List ℕ) (n m : ℕ) (ls : List D.Label) → LabelsAre s words n ls → n ≤ m → LabelsAre s words m ls
@@ -148,12 +132,6 @@ pub types_are : (q F T A : List ℕ) (g : Signature) (k : ℕ) → k ≡ g.types
 unfolding types_of
 types_are q F T A g k e = ap (types_in q F T) e
 
--- an answer by its number
-by_number : (c : ℕ) (st : Stage) (P : Turn → Type 0) → (c ≡ 0 → P (Next st)) → ((c ≡ 0 → ⊥) → P (Fault c)) → P (after_of c st)
-unfolding after_of
-by_number zero st P f g = f refl
-by_number (suc c) st P f g = g (λ e. absurd (omega arith))
-
 -- what is known of a line's entry
 module _ (s : List ℕ) (at : ℕ) (x : Entry) (w : InText s at x) where
   pub in_label : (k a t e : ℕ) → x ≡ Label k a t e → (t < e) × (e ≤ length s) × (is_relation_name (slice (t + 1) e s) ≡ true)
@@ -173,43 +151,35 @@ module _ (s : List ℕ) (at : ℕ) (x : Entry) (w : InText s at x) where
   in_pick a t e y p = subst (InText s at) p w
 
 module _ (L : CaseLimits) (q : List ℕ) (g : Signature) (s : List ℕ) (st : Stage) (x : Entry) (words words' joins joins' old new : List ℕ) where
-  abbrev Turned : Turn → Type 0
+  abbrev Turned : P.Result Stage Cause → Type 0
   Turned r = SiteTurned L q g s st x words words' joins joins' old new r
 
   abbrev added : ℕ → List D.Label → List D.Member → List Tuple → Result D.SiteDraft
   added at labels members facts = given (entry_in s x) 2 at >>= D.add_to_site L (rels_of q g) (types_of q g) (draft st.n labels members facts) at
 
-  pub site_wrong : x ≡ Wrong → Turned (Fault 2)
+  pub site_wrong : x ≡ Wrong → Turned (Err NoRecord)
   unfolding SiteTurned SiteTurns given entry_in ◌>>=◌
   site_wrong p at labels members facts w = rw p
 
-  pub site_rel : (a e k : ℕ) → x ≡ Rel a e k → Turned (Fault 3)
+  -- a line of another sheet
+  pub site_other : (x ≡ Wrong → ⊥) → ((k : ℕ) → x ≡ Size k → ⊥) → ((k a t e : ℕ) → x ≡ Label k a t e → ⊥) → ((a t k e : ℕ) → x ≡ Member a t k e → ⊥) → ((a t e : ℕ) (y : Places) → x ≡ Fact a t e y → ⊥) → Turned (Err OutOfOrder)
   unfolding SiteTurned SiteTurns given entry_in ◌>>=◌ D.add_to_site
-  site_rel a e k p at labels members facts w = rw p
-
-  pub site_type : (a e : ℕ) → x ≡ Typed a e → Turned (Fault 3)
-  unfolding SiteTurned SiteTurns given entry_in ◌>>=◌ D.add_to_site
-  site_type a e p at labels members facts w = rw p
-
-  pub site_choose : (a e k d t u v : ℕ) → x ≡ Choose a e k d t u v → Turned (Fault 3)
-  unfolding SiteTurned SiteTurns given entry_in ◌>>=◌ D.add_to_site
-  site_choose a e k d t u v p at labels members facts w = rw p
-
-  pub site_every : (a e k : ℕ) → x ≡ Every a e k → Turned (Fault 3)
-  unfolding SiteTurned SiteTurns given entry_in ◌>>=◌ D.add_to_site
-  site_every a e k p at labels members facts w = rw p
-
-  pub site_rule : (a e : ℕ) → x ≡ Rule a e → Turned (Fault 3)
-  unfolding SiteTurned SiteTurns given entry_in ◌>>=◌ D.add_to_site
-  site_rule a e p at labels members facts w = rw p
-
-  pub site_pick : (a t e : ℕ) (y : Places) → x ≡ Pick a t e y → Turned (Fault 3)
-  unfolding SiteTurned SiteTurns given entry_in ◌>>=◌ D.add_to_site
-  site_pick a t e y p at labels members facts w = rw p
-
-  pub site_step : (k : ℕ) → x ≡ Step k → Turned (Fault 3)
-  unfolding SiteTurned SiteTurns given entry_in ◌>>=◌ D.add_to_site
-  site_step k p at labels members facts w = rw p
+  site_other w0 w1 w2 w3 w4 at labels members facts w = site_out x w0 w1 w2 w3 w4 (draft st.n labels members facts) at
+    where
+      site_out : (x : Entry) → (x ≡ Wrong → ⊥) → ((k : ℕ) → x ≡ Size k → ⊥) → ((k a t e : ℕ) → x ≡ Label k a t e → ⊥) → ((a t k e : ℕ) → x ≡ Member a t k e → ⊥) → ((a t e : ℕ) (y : Places) → x ≡ Fact a t e y → ⊥)
+          → (d : D.SiteDraft) (at : ℕ) → (given (entry_in s x) 2 at >>= D.add_to_site L (rels_of q g) (types_of q g) d at) ≡ refused 3 at
+      site_out Wrong w0 w1 w2 w3 w4 z at = absurd (w0 refl)
+      site_out (Size k) w0 w1 w2 w3 w4 z at = absurd (w1 k refl)
+      site_out (Label k a t e) w0 w1 w2 w3 w4 z at = absurd (w2 k a t e refl)
+      site_out (Member a t k e) w0 w1 w2 w3 w4 z at = absurd (w3 a t k e refl)
+      site_out (Fact a t e y) w0 w1 w2 w3 w4 z at = absurd (w4 a t e y refl)
+      site_out (Rel a e k) w0 w1 w2 w3 w4 z at = refl
+      site_out (Typed a e) w0 w1 w2 w3 w4 z at = refl
+      site_out (Choose a e k d t u v) w0 w1 w2 w3 w4 z at = refl
+      site_out (Every a e k) w0 w1 w2 w3 w4 z at = refl
+      site_out (Rule a e) w0 w1 w2 w3 w4 z at = refl
+      site_out (Pick a t e y) w0 w1 w2 w3 w4 z at = refl
+      site_out (Step k) w0 w1 w2 w3 w4 z at = refl
 
   -- its size
   module _ (k : ℕ) (p : x ≡ Size k) where
@@ -228,12 +198,12 @@ module _ (L : CaseLimits) (q : List ℕ) (g : Signature) (s : List ℕ) (st : St
     first zero d at h = refl
     first (suc m) d at h = absurd (omega arith)
 
-    size_again : (st.n ≡ 0 → ⊥) → Turned (Fault 3)
+    size_again : (st.n ≡ 0 → ⊥) → Turned (Err OutOfOrder)
     unfolding SiteTurned SiteTurns
     size_again h at labels members facts w = size_is at labels members facts ∙ again st.n (draft st.n labels members facts) at h
 
     module _ (h : st.n ≡ 0) where
-      size_out : is_between 1 L.elements k ≡ false → Turned (Fault 9)
+      size_out : is_between 1 L.elements k ≡ false → Turned (Err OutOfRange)
       unfolding SiteTurned SiteTurns refuse_if ◌>>=◌
       size_out l at labels members facts w = size_is at labels members facts ∙ first st.n (draft st.n labels members facts) at h ∙ rw l
 
@@ -249,7 +219,7 @@ module _ (L : CaseLimits) (q : List ℕ) (g : Signature) (s : List ℕ) (st : St
       unfolding AllValid
       none_valid facts z = rw z tt
 
-      size_good : is_between 1 L.elements k ≡ true → words' ≡ words → joins' ≡ joins → new ≡ old → Turned (Next (record { n = k; joined = st.joined; begun = st.begun }))
+      size_good : is_between 1 L.elements k ≡ true → words' ≡ words → joins' ≡ joins → new ≡ old → Turned (Ok (record { n = k; joined = st.joined; begun = st.begun }))
       unfolding SiteTurned SiteTurns refuse_if ◌>>=◌ draft SoFar Facts
       size_good b i j o at labels members facts w =
           let (l, m) = in_limit b in (
@@ -266,11 +236,11 @@ module _ (L : CaseLimits) (q : List ℕ) (g : Signature) (s : List ℕ) (st : St
             ),
           )
 
-    pub size_turned : (most : ℕ) → L.elements ≡ most → (t : Turn) → t ≡ size_turn k most st → words' ≡ words → joins' ≡ joins → new ≡ old → Turned t
+    pub size_turned : (most : ℕ) → L.elements ≡ most → (t : P.Result Stage Cause) → t ≡ size_turn k most st → words' ≡ words → joins' ≡ joins → new ≡ old → Turned t
     unfolding size_turn
     size_turned most e t r i j o = subst Turned (sym r) (by_test (eqb st.n 0) refl (is_between 1 most k) (ap (λ (y : ℕ). is_between 1 y k) e))
       where
-        by_test : (a : Bool) → eqb st.n 0 ≡ a → (b : Bool) → is_between 1 L.elements k ≡ b → Turned (if not a then Fault 3 else if b then Next (record { n = k; joined = st.joined; begun = st.begun }) else Fault 9)
+        by_test : (a : Bool) → eqb st.n 0 ≡ a → (b : Bool) → is_between 1 L.elements k ≡ b → Turned (if not a then Err OutOfOrder else if b then Ok (record { n = k; joined = st.joined; begun = st.begun }) else Err OutOfRange)
         by_test false z b y = size_again (eqb-false st.n 0 z)
         by_test true z true y = size_good (eqb-true st.n 0 z) y i j o
         by_test true z false y = size_out (eqb-true st.n 0 z) y
@@ -304,11 +274,11 @@ module _ (L : CaseLimits) (q : List ℕ) (g : Signature) (s : List ℕ) (st : St
     label_3 (suc m) true at labels members facts e h = rw e
     label_3 (suc m) false at labels members facts e h = absurd (omega (arith, eqb-true (suc m) 0 h))
 
-    pub label_out_lem : label_out st ≡ true → Turned (Fault 3)
+    pub label_out_lem : label_out st ≡ true → Turned (Err OutOfOrder)
     unfolding SiteTurned SiteTurns SoFar label_out member_out
     label_out_lem h at labels members facts w = label_is at labels members facts ∙ label_3 st.n (st.joined || st.begun) at labels members facts (ap₂ ◌||◌ (sym w.4) (sym w.2)) (or_assoc st.joined st.begun (eqb st.n 0) ∙ h)
 
-    module _ (o : label_out st ≡ false) (c : ℕ) (v : LabelAdded s st.n (element_by (slice a t s) k) (slice (t + 1) e s) words words' c) where
+    module _ (o : label_out st ≡ false) (c : P.Result (Unit {0}) Cause) (v : LabelAdded s st.n (element_by (slice a t s) k) (slice (t + 1) e s) words words' c) where
       in_place : member_out st ≡ false
       unfolding label_out
       in_place = (or_both st.joined (member_out st) o).1
@@ -324,12 +294,12 @@ module _ (L : CaseLimits) (q : List ℕ) (g : Signature) (s : List ℕ) (st : St
           → added at labels members facts ≡ D.add_label (record { sized = some st.n; labels = labels; members = []; facts = [] }) at (element_by (slice a t s) k) (slice (t + 1) e s)
       said at labels members facts y z = label_is at labels members facts ∙ ap (λ (d : D.SiteDraft). D.add_label d at (element_by (slice a t s) k) (slice (t + 1) e s)) (bare labels members facts y z)
 
-      label_added : c ≡ 0 → joins' ≡ joins → new ≡ old → Turned (Next st)
+      pub label_added : c ≡ Ok tt → joins' ≡ joins → new ≡ old → Turned (Ok st)
       unfolding SiteTurned SiteTurns SoFar LabelAdded LabelAdds
       label_added z j i at labels members facts w =
           let y = no_member_yet members w.4 in
           let none = no_fact_yet in_place facts w.2 in
-          let u = subst (λ (j : ℕ). LabelAdds s st.n (element_by (slice a t s) k) (slice (t + 1) e s) labels at words' j) z (v labels at w.1) in (
+          let u = subst (λ (j : P.Result (Unit {0}) Cause). LabelAdds s st.n (element_by (slice a t s) k) (slice (t + 1) e s) labels at words' j) z (v labels at w.1) in (
             labels ++ (u.0 ∷ []),
             members,
             facts,
@@ -337,18 +307,11 @@ module _ (L : CaseLimits) (q : List ℕ) (g : Signature) (s : List ℕ) (st : St
             (subst (λ (u : List ℕ). Facts L g st.n facts (bit u)) (sym i) w.0, u.2, w.2, subst (λ (u : List ℕ). MembersAre u g.types st.n members) (sym j) w.3, w.4),
           )
 
-      fault_by : (j at : ℕ) (labels : List D.Label) → (j ≡ 0 → ⊥) → LabelAdds s st.n (element_by (slice a t s) k) (slice (t + 1) e s) labels at words' j
-          → D.add_label (record { sized = some st.n; labels = labels; members = []; facts = [] }) at (element_by (slice a t s) k) (slice (t + 1) e s) ≡ refused j at
-      unfolding LabelAdds
-      fault_by zero at labels h u = absurd (h refl)
-      fault_by (suc j) at labels h u = u
-
-      label_fault : (c ≡ 0 → ⊥) → Turned (Fault c)
-      unfolding SiteTurned SiteTurns SoFar LabelAdded
-      label_fault z at labels members facts w = said at labels members facts (no_member_yet members w.4) (no_fact_yet in_place facts w.2) ∙ fault_by c at labels z (v labels at w.1)
-
-      pub label_turned : joins' ≡ joins → new ≡ old → (r : Turn) → r ≡ after_of c st → Turned r
-      label_turned j i r e = subst Turned (sym e) (by_number c st Turned (λ z. label_added z j i) label_fault)
+      pub label_fault : (j : Cause) → c ≡ Err j → Turned (Err j)
+      unfolding SiteTurned SiteTurns SoFar LabelAdded LabelAdds
+      label_fault j z at labels members facts w =
+          said at labels members facts (no_member_yet members w.4) (no_fact_yet in_place facts w.2)
+          ∙ subst (λ (j : P.Result (Unit {0}) Cause). LabelAdds s st.n (element_by (slice a t s) k) (slice (t + 1) e s) labels at words' j) z (v labels at w.1)
 
   -- a member
   module _ (a t k e : ℕ) (p : x ≡ Member a t k e) where
@@ -363,11 +326,11 @@ module _ (L : CaseLimits) (q : List ℕ) (g : Signature) (s : List ℕ) (st : St
     member_3 (suc m) true at labels members facts e h = rw e
     member_3 (suc m) false at labels members facts e h = absurd (omega (arith, eqb-true (suc m) 0 h))
 
-    pub member_out_lem : member_out st ≡ true → Turned (Fault 3)
+    pub member_out_lem : member_out st ≡ true → Turned (Err OutOfOrder)
     unfolding SiteTurned SiteTurns SoFar member_out
     member_out_lem h at labels members facts w = member_is at labels members facts ∙ member_3 st.n st.begun at labels members facts (sym w.2) h
 
-    module _ (o : member_out st ≡ false) (c : ℕ) (types : List (List ℕ)) (r : types ≡ types_of q g) (few : length types ≡ g.types)
+    module _ (o : member_out st ≡ false) (c : P.Result (Unit {0}) Cause) (types : List (List ℕ)) (r : types ≡ types_of q g) (few : length types ≡ g.types)
         (v : (ls : List D.Label) → LabelsAre s words st.n ls → MemberAdded types st.n ls (slice a t s) (element_by (slice (t + 1) e s) k) joins joins' c) where
       ready : (labels : List D.Label) (members : List D.Member) (facts : List Tuple) → facts ≡ [] → draft st.n labels members facts ≡ member_draft st.n labels members
       ready labels members facts z = drafted st.n labels members facts (some_size_yet o) ∙ rw z
@@ -381,14 +344,11 @@ module _ (L : CaseLimits) (q : List ℕ) (g : Signature) (s : List ℕ) (st : St
       so_many : (w : List ℕ) (ms : List D.Member) → MembersAre w g.types st.n ms → MembersAre w (length types) st.n ms
       so_many w ms M = subst (λ (k : ℕ). MembersAre w k st.n ms) (sym few) M
 
-      joined_on : Stage
-      joined_on = record { n = st.n; joined = true; begun = st.begun }
-
-      member_added : c ≡ 0 → words' ≡ words → new ≡ old → Turned (Next joined_on)
-      unfolding SiteTurned SiteTurns SoFar MemberAdded MemberAdds joined_on
+      pub member_added : c ≡ Ok tt → words' ≡ words → new ≡ old → Turned (Ok (record { n = st.n; joined = true; begun = st.begun }))
+      unfolding SiteTurned SiteTurns SoFar MemberAdded MemberAdds
       member_added z i j at labels members facts w =
           let none = no_fact_yet o facts w.2 in
-          let u = subst (λ (j : ℕ). MemberAdds types st.n labels (slice a t s) (element_by (slice (t + 1) e s) k) members at joins' j) z (v labels w.1 members at (so_many joins members w.3)) in (
+          let u = subst (λ (j : P.Result (Unit {0}) Cause). MemberAdds types st.n labels (slice a t s) (element_by (slice (t + 1) e s) k) members at joins' j) z (v labels w.1 members at (so_many joins members w.3)) in (
             labels,
             members ++ (u.0 ∷ []),
             facts,
@@ -402,19 +362,11 @@ module _ (L : CaseLimits) (q : List ℕ) (g : Signature) (s : List ℕ) (st : St
             ),
           )
 
-      unjoined_by : (j at : ℕ) (labels : List D.Label) (members : List D.Member) → (j ≡ 0 → ⊥) → MemberAdds types st.n labels (slice a t s) (element_by (slice (t + 1) e s) k) members at joins' j
-          → D.add_member types (member_draft st.n labels members) at (slice a t s) (element_by (slice (t + 1) e s) k) ≡ refused j at
-      unfolding MemberAdds
-      unjoined_by zero at labels members h u = absurd (h refl)
-      unjoined_by (suc j) at labels members h u = u
-
-      member_fault : (c ≡ 0 → ⊥) → Turned (Fault c)
-      unfolding SiteTurned SiteTurns SoFar MemberAdded
-      member_fault z at labels members facts w = told at labels members facts (no_fact_yet o facts w.2) ∙ unjoined_by c at labels members z (v labels w.1 members at (so_many joins members w.3))
-
-      pub member_turned : words' ≡ words → new ≡ old → (r : Turn) → r ≡ after_of c (record { n = st.n; joined = true; begun = st.begun }) → Turned r
-      unfolding joined_on
-      member_turned i j r e = subst Turned (sym e) (by_number c joined_on Turned (λ z. member_added z i j) member_fault)
+      pub member_fault : (j : Cause) → c ≡ Err j → Turned (Err j)
+      unfolding SiteTurned SiteTurns SoFar MemberAdded MemberAdds
+      member_fault j z at labels members facts w =
+          told at labels members facts (no_fact_yet o facts w.2)
+          ∙ subst (λ (j : P.Result (Unit {0}) Cause). MemberAdds types st.n labels (slice a t s) (element_by (slice (t + 1) e s) k) members at joins' j) z (v labels w.1 members at (so_many joins members w.3))
 
   -- a fact
   module _ (a t e : ℕ) (y : Places) (p : x ≡ Fact a t e y) where
@@ -433,21 +385,18 @@ module _ (L : CaseLimits) (q : List ℕ) (g : Signature) (s : List ℕ) (st : St
     later zero at labels members facts h = absurd (h refl)
     later (suc m) at labels members facts h = refl
 
-    pub fact_early : st.n ≡ 0 → Turned (Fault 3)
+    pub fact_early : st.n ≡ 0 → Turned (Err OutOfOrder)
     unfolding SiteTurned SiteTurns
     fact_early h at labels members facts w = fact_is at labels members facts ∙ early st.n at labels members facts h
 
-    module _ (h : st.n ≡ 0 → ⊥) (c m : ℕ) (r : m ≡ g.rels) (v : (ls : List D.Label) → LabelsAre s words st.n ls → Added q g 0 m st.n ls (slice a t s) (list_of s (t + 1) e y) old new c) where
+    module _ (h : st.n ≡ 0 → ⊥) (c : P.Result (Unit {0}) Cause) (m : ℕ) (r : m ≡ g.rels) (v : (ls : List D.Label) → LabelsAre s words st.n ls → Added q g 0 m st.n ls (slice a t s) (list_of s (t + 1) e y) old new c) where
       u : (ls : List D.Label) → LabelsAre s words st.n ls → Added q g 0 g.rels st.n ls (slice a t s) (list_of s (t + 1) e y) old new c
       u ls K = subst (λ (m : ℕ). Added q g 0 m st.n ls (slice a t s) (list_of s (t + 1) e y) old new c) r (v ls K)
 
-      begun_on : Stage
-      begun_on = record { n = st.n; joined = st.joined; begun = true }
-
-      fact_added : c ≡ 0 → words' ≡ words → joins' ≡ joins → Turned (Next begun_on)
-      unfolding SiteTurned SiteTurns SoFar Facts Added Adds ◌>>=◌ begun_on
+      pub fact_added : c ≡ Ok tt → words' ≡ words → joins' ≡ joins → Turned (Ok (record { n = st.n; joined = st.joined; begun = true }))
+      unfolding SiteTurned SiteTurns SoFar Facts Added Adds ◌>>=◌
       fact_added z i j at labels members facts w =
-          let v = subst (λ (c : ℕ). Adds q g 0 g.rels st.n labels (slice a t s) (list_of s (t + 1) e y) facts at new c) z (u labels w.1 facts at w.0.2 w.0.1) in (
+          let v = subst (λ (c : P.Result (Unit {0}) Cause). Adds q g 0 g.rels st.n labels (slice a t s) (list_of s (t + 1) e y) facts at new c) z (u labels w.1 facts at w.0.2 w.0.1) in (
             labels,
             members,
             facts ++ (v.0 ∷ []),
@@ -461,15 +410,11 @@ module _ (L : CaseLimits) (q : List ℕ) (g : Signature) (s : List ℕ) (st : St
             ),
           )
 
-      fact_fault : (c ≡ 0 → ⊥) → Turned (Fault c)
-      unfolding SiteTurned SiteTurns SoFar Facts Added ◌>>=◌
-      fact_fault z at labels members facts w =
+      pub fact_fault : (j : Cause) → c ≡ Err j → Turned (Err j)
+      unfolding SiteTurned SiteTurns SoFar Facts Added Adds ◌>>=◌
+      fact_fault j z at labels members facts w =
           fact_is at labels members facts ∙ later st.n at labels members facts h
-          ∙ rw (adds_fault q g 0 g.rels st.n labels (slice a t s) (list_of s (t + 1) e y) facts at new c z (u labels w.1 facts at w.0.2 w.0.1))
-
-      pub fact_turned : words' ≡ words → joins' ≡ joins → (r : Turn) → r ≡ after_of c (record { n = st.n; joined = st.joined; begun = true }) → Turned r
-      unfolding begun_on
-      fact_turned i j r e = subst Turned (sym e) (by_number c begun_on Turned (λ z. fact_added z i j) fact_fault)
+          ∙ rw (subst (λ (c : P.Result (Unit {0}) Cause). Adds q g 0 g.rels st.n labels (slice a t s) (list_of s (t + 1) e y) facts at new c) z (u labels w.1 facts at w.0.2 w.0.1))
 
 -- limits of so many elements, whatever the others are
 abbrev pub up_to : ℕ → CaseLimits
@@ -559,49 +504,29 @@ module _ (L : CaseLimits) (q : List ℕ) (g : Signature) (s : List ℕ) where
 -- ---- a line of picks
 
 module _ (q : List ℕ) (g : Signature) (s : List ℕ) (n : ℕ) (ls : List D.Label) (x : Entry) (old new : List ℕ) where
-  pub picks_wrong : x ≡ Wrong → PickTurned q g s n ls x old new 2
+  pub picks_wrong : x ≡ Wrong → PickTurned q g s n ls x old new (Err NoRecord)
   unfolding PickTurned PickTurns given entry_in ◌>>=◌
   picks_wrong p at picks w = rw p
 
-  pub picks_rel : (a e k : ℕ) → x ≡ Rel a e k → PickTurned q g s n ls x old new 3
+  -- a line of another sheet
+  pub picks_other : (x ≡ Wrong → ⊥) → ((a t e : ℕ) (y : Places) → x ≡ Pick a t e y → ⊥) → PickTurned q g s n ls x old new (Err OutOfOrder)
   unfolding PickTurned PickTurns given entry_in ◌>>=◌ D.add_to_picks
-  picks_rel a e k p at picks w = rw p
-
-  pub picks_type : (a e : ℕ) → x ≡ Typed a e → PickTurned q g s n ls x old new 3
-  unfolding PickTurned PickTurns given entry_in ◌>>=◌ D.add_to_picks
-  picks_type a e p at picks w = rw p
-
-  pub picks_choose : (a e k d t u v : ℕ) → x ≡ Choose a e k d t u v → PickTurned q g s n ls x old new 3
-  unfolding PickTurned PickTurns given entry_in ◌>>=◌ D.add_to_picks
-  picks_choose a e k d t u v p at picks w = rw p
-
-  pub picks_every : (a e k : ℕ) → x ≡ Every a e k → PickTurned q g s n ls x old new 3
-  unfolding PickTurned PickTurns given entry_in ◌>>=◌ D.add_to_picks
-  picks_every a e k p at picks w = rw p
-
-  pub picks_rule : (a e : ℕ) → x ≡ Rule a e → PickTurned q g s n ls x old new 3
-  unfolding PickTurned PickTurns given entry_in ◌>>=◌ D.add_to_picks
-  picks_rule a e p at picks w = rw p
-
-  pub picks_size : (k : ℕ) → x ≡ Size k → PickTurned q g s n ls x old new 3
-  unfolding PickTurned PickTurns given entry_in ◌>>=◌ D.add_to_picks
-  picks_size k p at picks w = rw p
-
-  pub picks_label : (k a t e : ℕ) → x ≡ Label k a t e → PickTurned q g s n ls x old new 3
-  unfolding PickTurned PickTurns given entry_in ◌>>=◌ D.add_to_picks
-  picks_label k a t e p at picks w = rw p
-
-  pub picks_member : (a t k e : ℕ) → x ≡ Member a t k e → PickTurned q g s n ls x old new 3
-  unfolding PickTurned PickTurns given entry_in ◌>>=◌ D.add_to_picks
-  picks_member a t k e p at picks w = rw p
-
-  pub picks_fact : (a t e : ℕ) (y : Places) → x ≡ Fact a t e y → PickTurned q g s n ls x old new 3
-  unfolding PickTurned PickTurns given entry_in ◌>>=◌ D.add_to_picks
-  picks_fact a t e y p at picks w = rw p
-
-  pub picks_step : (k : ℕ) → x ≡ Step k → PickTurned q g s n ls x old new 3
-  unfolding PickTurned PickTurns given entry_in ◌>>=◌ D.add_to_picks
-  picks_step k p at picks w = rw p
+  picks_other w0 w1 at picks w = picks_out x w0 w1 picks at
+    where
+      picks_out : (x : Entry) → (x ≡ Wrong → ⊥) → ((a t e : ℕ) (y : Places) → x ≡ Pick a t e y → ⊥) → (picks : List Tuple) (at : ℕ)
+          → (given (entry_in s x) 2 at >>= D.add_to_picks (chosen_of q g) (5 + g.rels) n ls picks at) ≡ refused 3 at
+      picks_out Wrong w0 w1 picks at = absurd (w0 refl)
+      picks_out (Pick a t e y) w0 w1 picks at = absurd (w1 a t e y refl)
+      picks_out (Rel a e k) w0 w1 picks at = refl
+      picks_out (Typed a e) w0 w1 picks at = refl
+      picks_out (Choose a e k d t u v) w0 w1 picks at = refl
+      picks_out (Every a e k) w0 w1 picks at = refl
+      picks_out (Rule a e) w0 w1 picks at = refl
+      picks_out (Size k) w0 w1 picks at = refl
+      picks_out (Label k a t e) w0 w1 picks at = refl
+      picks_out (Member a t k e) w0 w1 picks at = refl
+      picks_out (Fact a t e y) w0 w1 picks at = refl
+      picks_out (Step k) w0 w1 picks at = refl
 
   module _ (a t e : ℕ) (y : Places) (p : x ≡ Pick a t e y) where
     pick_is : (at : ℕ) (picks : List Tuple) → (given (entry_in s x) 2 at >>= D.add_to_picks (chosen_of q g) (5 + g.rels) n ls picks at)
@@ -609,14 +534,14 @@ module _ (q : List ℕ) (g : Signature) (s : List ℕ) (n : ℕ) (ls : List D.La
     unfolding given entry_in ◌>>=◌ D.add_to_picks chosen_of
     pick_is at picks = rw p
 
-    turn_by : (c at : ℕ) (picks : List Tuple) (res : Result (List Tuple)) → Picks g n picks (bit old)
+    turn_by : (c : P.Result (Unit {0}) Cause) (at : ℕ) (picks : List Tuple) (res : Result (List Tuple)) → Picks g n picks (bit old)
         → res ≡ D.add_tuple (relations_from q g g.rels g.chosen) (5 + g.rels) n ls picks at (slice a t s) (list_of s (t + 1) e y)
         → Adds q g g.rels g.chosen n ls (slice a t s) (list_of s (t + 1) e y) picks at new c → PickTurns g n picks res at c (bit new)
     unfolding PickTurns Adds Picks
-    turn_by zero at picks res w r v = (picks ++ (v.0 ∷ []), r ∙ v.1, (v.3, v.2), length-append picks (v.0 ∷ []))
-    turn_by (suc c) at picks res w r v = r ∙ v
+    turn_by (Ok i) at picks res w r v = (picks ++ (v.0 ∷ []), r ∙ v.1, (v.3, v.2), length-append picks (v.0 ∷ []))
+    turn_by (Err c) at picks res w r v = r ∙ v
 
-    pub picks_pick : (c lo m : ℕ) → lo ≡ g.rels → m ≡ g.chosen → Added q g lo m n ls (slice a t s) (list_of s (t + 1) e y) old new c → PickTurned q g s n ls x old new c
+    pub picks_pick : (c : P.Result (Unit {0}) Cause) (lo m : ℕ) → lo ≡ g.rels → m ≡ g.chosen → Added q g lo m n ls (slice a t s) (list_of s (t + 1) e y) old new c → PickTurned q g s n ls x old new c
     unfolding PickTurned Picks Added
     picks_pick c lo m l r v at picks w =
         let u = subst (λ (m : ℕ). Added q g g.rels m n ls (slice a t s) (list_of s (t + 1) e y) old new c) r (subst (λ (lo : ℕ). Added q g lo m n ls (slice a t s) (list_of s (t + 1) e y) old new c) l v) in

@@ -1,5 +1,5 @@
-// The readers of the site, of picks and of steps: a value, or the refusal's number and place (1 to 3, 7, 19, 9, 18, 10); and of a case,
-// which is a question and a site.
+// The readers of the site, of picks and of steps, and of a case, which is a question and a site: what was read, or why and where it is
+// refused (1 to 3, 7, 19, 9, 18, 10).
 #![tactic(auto)]
 
 ghost use Rattle.std.specs.Prelude.{◌≡◌, true, false, List, ℕ, ◌+◌, ◌*◌, ◌≤◌, length, set as «set_at»};
@@ -12,15 +12,15 @@ ghost use Rattle.read_names.specs.Signatures.{SoundSignature, with_arrays, rels_
 ghost use Rattle.read_tuples.specs.Labels.{LabelsAre, NoLabels};
 ghost use Rattle.read_tuples.specs.Members.{MembersAre, NoMembers};
 ghost use Rattle.read_tuples.specs.Marks.{Roomy};
-ghost use Rattle.read_sheets.specs.Reading.{answered, size_in, SizeRoom, FactsRoom, PicksRoom, FewArities, size_turn, label_out, member_out, after_of, end_of, SiteTurned, GotSite, FactsIn, LabelsIn, MembersIn, PickTurned, GotPicks, PicksIn, verdict_of, RoomFor, left};
-ghost use Rattle.read_sheets.specs.declared.Answer.TheVariants.{Done};
+ghost use Rattle.read_sheets.specs.Reading.{SizeRoom, FactsRoom, PicksRoom, FewArities, size_turn, label_out, member_out, end_of, SiteTurned, GotSite, SiteRead, PickTurned, GotPicks, PicksRead, step_of, RoomFor, StepsRead, Cleared};
 ghost use Rattle.definitions.specs.Reply.Outcome.{read_filed, read_case};
-ghost use Rattle.read_sheets.specs.Opening.{FiledRead, CaseRead, failed};
+ghost use Rattle.read_sheets.specs.Opening.{FiledRead, CaseRead};
 
 use read_line::{Entry, Places};
 use read_names::Signature;
 use read_question::Span;
 use read_tuples::{MemberLine, TupleLine};
+use refusal::{Cause, Refusal};
 
 // The most steps that a text has: a step line has at least 7 bytes.
 pub const STEPS: usize = read_text::LIMIT / 7;
@@ -39,13 +39,6 @@ pub const LONG: usize = 7 * MANY;
 // it has none; and 256 for hints where a name stands.
 pub const LABELS: usize = 384;
 
-// A site's size, a count of picks or of steps; or a refusal's number and place.
-#[derive(Clone, Copy)]
-pub enum Answer {
-    Done(usize),
-    Refused(u32, usize),
-}
-
 // What was read of a site so far: its size, 0 for none, whether there was a member, and whether there was a fact.
 #[derive(Clone, Copy)]
 struct Stage {
@@ -54,60 +47,30 @@ struct Stage {
     begun: bool,
 }
 
-// After a line of a site: what was read so far, or the refusal's number.
-#[derive(Clone, Copy)]
-enum Turn {
-    Next(Stage),
-    Fault(u32),
-}
-
 // A line that says the size k.
-fn size_turn(k: usize, most: usize, st: Stage) -> Turn
+fn size_turn(k: usize, most: usize, st: Stage) -> Result<Stage, Cause>
     ensures { result ≡ size_turn k most st }
 {
     if st.n != 0 {
-        return Turn::Fault(3);
+        return Err(Cause::OutOfOrder);
     }
-    if k < 1 {
-        return Turn::Fault(9);
+    if k < 1 || most < k {
+        return Err(Cause::OutOfRange);
     }
-    if most < k {
-        return Turn::Fault(9);
-    }
-    Turn::Next(Stage {
-        n: k,
-        joined: st.joined,
-        begun: st.begun,
-    })
+    Ok(Stage { n: k, ..st })
 }
 
 // Whether a `label` line, and a `member` line, comes too early or too late.
 fn is_no_place_for_label(st: Stage) -> bool
     ensures { result ≡ label_out st }
 {
-    if st.joined {
-        return true;
-    }
-    is_no_place_for_member(st)
+    st.joined || is_no_place_for_member(st)
 }
 
 fn is_no_place_for_member(st: Stage) -> bool
     ensures { result ≡ member_out st }
 {
-    if st.begun {
-        return true;
-    }
-    st.n == 0
-}
-
-// What was read after a line that has the refusal's number c, or 0.
-fn after(c: u32, st: Stage) -> Turn
-    ensures { result ≡ after_of c st }
-{
-    if c == 0 {
-        return Turn::Next(st);
-    }
-    Turn::Fault(c)
+    st.begun || st.n == 0
 }
 
 // A line of a site after what was read so far, where `most` is the most elements that the site may have, and a signature has so many
@@ -149,27 +112,6 @@ fn fact_line(line: SiteLine, a: usize, t: usize, e: usize, p: Places) -> TupleLi
     }
 }
 
-// What was read once there is a member, and once there is a fact.
-fn with_member(st: Stage) -> Stage
-    ensures { result ≡ record { n = st.n; joined = true; begun = st.begun } }
-{
-    Stage {
-        n: st.n,
-        joined: true,
-        begun: st.begun,
-    }
-}
-
-fn with_fact(st: Stage) -> Stage
-    ensures { result ≡ record { n = st.n; joined = st.joined; begun = true } }
-{
-    Stage {
-        n: st.n,
-        joined: st.joined,
-        begun: true,
-    }
-}
-
 // One line of a site; of a signature the arrays are lent.
 fn site_turn(
     q: &[u8],
@@ -181,7 +123,7 @@ fn site_turn(
     members: &mut [u64],
     table: &mut [u64],
     line: SiteLine,
-) -> Turn
+) -> Result<Stage, Cause>
     requires few_arities { FewArities 0 line.rels arity.now × (line.most ≤ 64) × (line.stage.n ≤ line.most)
         × ((line.stage.n ≡ 0 → ⊥) → Roomy from.now to.now arity.now 0 line.rels line.stage.n (length table.old)) }
     requires types_bound { (line.types ≤ 8) × (length members.old ≡ 8) }
@@ -193,38 +135,32 @@ fn site_turn(
     let x = line.entry;
     let st = line.stage;
     match x {
-        Entry::Wrong => Turn::Fault(2),
-        Entry::Rel(_, _, _) => Turn::Fault(3),
-        Entry::Typed(_, _) => Turn::Fault(3),
-        Entry::Choose(_, _, _, _, _, _, _) => Turn::Fault(3),
-        Entry::Every(_, _, _) => Turn::Fault(3),
-        Entry::Rule(_, _) => Turn::Fault(3),
+        Entry::Wrong => Err(Cause::NoRecord),
         Entry::Size(k) => size_turn(k as usize, line.most, st),
         Entry::Label(k, a, t, e) => {
             if is_no_place_for_label(st) {
-                return Turn::Fault(3);
+                return Err(Cause::OutOfOrder);
             }
-            let c = read_tuples::label(s, k, a, t, e, st.n, labels);
-            after(c, st)
+            read_tuples::label(s, k, a, t, e, st.n, labels)?;
+            Ok(st)
         }
         Entry::Member(a, t, k, e) => {
             if is_no_place_for_member(st) {
-                return Turn::Fault(3);
+                return Err(Cause::OutOfOrder);
             }
             let m = member_line(line, a, t, k, e);
-            let c = read_tuples::member(q, from, to, s, labels, members, m);
-            after(c, with_member(st))
+            read_tuples::member(q, from, to, s, labels, members, m)?;
+            Ok(Stage { joined: true, ..st })
         }
         Entry::Fact(a, t, e, p) => {
             if st.n == 0 {
-                return Turn::Fault(3);
+                return Err(Cause::OutOfOrder);
             }
             let f = fact_line(line, a, t, e, p);
-            let c = read_tuples::add(q, from, to, arity, s, s, labels, table, f);
-            after(c, with_fact(st))
+            read_tuples::add(q, from, to, arity, s, s, labels, table, f)?;
+            Ok(Stage { begun: true, ..st })
         }
-        Entry::Pick(_, _, _, _) => Turn::Fault(3),
-        Entry::Step(_) => Turn::Fault(3),
+        _ => Err(Cause::OutOfOrder),
     }
 }
 
@@ -233,28 +169,26 @@ fn all_have_members(members: &[u64], types: usize) -> bool
     requires { (types ≤ 8) × (length members.now ≡ 8) }
     ensures { (n : ℕ) (ms : List Member) → n ≤ 64 → MembersAre members.now types n ms → result ≡ all (has_member ms) (below types) }
 {
-    let mut k: usize = 0;
-    while k < types {
+    for k in 0..types {
         if bits::ones(members, k, 1) == 0 {
             return false;
         }
-        k += 1;
     }
     true
 }
 
 // A site whose lines are all read, in a text that ends at `end`.
-fn site_end(n: usize, types: usize, members: &[u64], end: usize) -> Answer
+fn site_end(n: usize, types: usize, members: &[u64], end: usize) -> Result<usize, Refusal>
     requires { (types ≤ 8) × (length members.now ≡ 8) × (n ≤ 64) }
     ensures { (ms : List Member) → MembersAre members.now types n ms → result ≡ end_of n (all (has_member ms) (below types)) end }
 {
     if n == 0 {
-        return Answer::Refused(3, end);
+        return Err(Cause::OutOfOrder.at(end));
     }
-    if all_have_members(members, types) {
-        return Answer::Done(n);
+    if !all_have_members(members, types) {
+        return Err(Cause::BadType.at(0));
     }
-    Answer::Refused(19, 0)
+    Ok(n)
 }
 
 // Reads a site into the labels, the members and the table.
@@ -266,23 +200,21 @@ fn site_lines(
     labels: &mut [usize],
     members: &mut [u64],
     table: &mut [u64],
-) -> Answer
+) -> Result<usize, Refusal>
     requires { SoundSignature q.now g × (most ≤ 64) × SizeRoom s.now g most (length table.old) × NoLabels labels.old × NoMembers members.old × (bit table.old ≡ λ i. false) }
     ensures { (L : CaseLimits) → L.elements ≡ most → GotSite L g s.now (read_site L (rels_of q.now g) (types_of q.now g) s.now) result labels.new members.new (bit table.new) }
 {
     let end = s.len();
     if read_text::LIMIT < end {
-        return Answer::Refused(1, 0);
+        return Err(Cause::TooLong.at(0));
     }
-    let from = g.from;
-    let to = g.to;
-    let arity = g.arity;
     let mut at = 0;
     let mut st = Stage {
         n: 0,
         joined: false,
         begun: false,
     };
+    // no count: the next line begins where this one ends
     while at < end {
         let l = read_line::line(s, at);
         let x = l.entry;
@@ -293,18 +225,22 @@ fn site_lines(
             rels: g.rels,
             types: g.types,
         };
-        let t = site_turn(q, &from, &to, &arity, s, labels, members, table, line);
-        match t {
-            Turn::Next(u) => {
-                st = u;
-            }
-            Turn::Fault(k) => {
-                return Answer::Refused(k, at);
-            }
-        }
+        st = site_turn(q, &g.from, &g.to, &g.arity, s, labels, members, table, line).map_err(
+            |c| c.at(at),
+        )?;
         at = l.next;
     }
     site_end(st.n, g.types, members, end)
+}
+
+// What was read into the table, which is cleared again where that was refused.
+fn cleared(read: Result<usize, Refusal>, table: &mut [u64]) -> Result<usize, Refusal>
+    ensures { (result ≡ read) × Cleared read table.old table.new }
+{
+    if read.is_err() {
+        table.fill(0);
+    }
+    read
 }
 
 // Reads a site of at most `most` elements: its size, its labels as spans, which come in all 0, the members of its types as bits, a word a
@@ -317,22 +253,12 @@ pub fn site(
     labels: &mut [usize],
     members: &mut [u64],
     table: &mut [u64],
-) -> Answer
+) -> Result<usize, Refusal>
     requires { SoundSignature q.now g × (most ≤ 64) × SizeRoom s.now g most (length table.old) × NoLabels labels.old × NoMembers members.old × (bit table.old ≡ λ i. false) }
-    ensures { (L : CaseLimits) → L.elements ≡ most → (result ≡ answered size_in (read_site L (rels_of q.now g) (types_of q.now g) s.now))
-        × FactsIn L g (read_site L (rels_of q.now g) (types_of q.now g) s.now) (bit table.new)
-        × LabelsIn s.now (read_site L (rels_of q.now g) (types_of q.now g) s.now) labels.new
-        × MembersIn g (read_site L (rels_of q.now g) (types_of q.now g) s.now) members.new }
+    ensures { (L : CaseLimits) → L.elements ≡ most → SiteRead L g s.now (read_site L (rels_of q.now g) (types_of q.now g) s.now) result labels.new members.new (bit table.new) }
 {
-    let r = site_lines(q, g, s, most, labels, members, table);
-    match r {
-        Answer::Done(n) => Answer::Done(n),
-        Answer::Refused(k, place) => {
-            let count = table.len();
-            bits::fill(table, count);
-            Answer::Refused(k, place)
-        }
-    }
+    let read = site_lines(q, g, s, most, labels, members, table);
+    cleared(read, table)
 }
 
 // A line of picks over n elements, and which relations they are of: the `count` ones from `first` on.
@@ -344,7 +270,7 @@ struct PickLine {
     n: usize,
 }
 
-// One line of picks: 0, or the refusal's number; of a signature the arrays are lent.
+// One line of picks; of a signature the arrays are lent.
 fn picks_turn(
     q: &[u8],
     from: &[usize; read_names::NAMES],
@@ -355,7 +281,7 @@ fn picks_turn(
     labels: &[usize],
     table: &mut [u64],
     line: PickLine,
-) -> u32
+) -> Result<(), Cause>
     requires few_arities { FewArities line.first line.count arity.now × (line.n ≤ 64)
         × Roomy from.now to.now arity.now line.first line.count line.n (length table.old) }
     requires by_index { ((ls : List Label) × LabelsAre site.now labels.now line.n ls) × ((at : ℕ) × InText s.now at line.entry) }
@@ -364,16 +290,7 @@ fn picks_turn(
 {
     let x = line.entry;
     match x {
-        Entry::Wrong => 2,
-        Entry::Rel(_, _, _) => 3,
-        Entry::Typed(_, _) => 3,
-        Entry::Choose(_, _, _, _, _, _, _) => 3,
-        Entry::Every(_, _, _) => 3,
-        Entry::Rule(_, _) => 3,
-        Entry::Size(_) => 3,
-        Entry::Label(_, _, _, _) => 3,
-        Entry::Member(_, _, _, _) => 3,
-        Entry::Fact(_, _, _, _) => 3,
+        Entry::Wrong => Err(Cause::NoRecord),
         Entry::Pick(a, t, e, p) => {
             let pick = TupleLine {
                 first: line.first,
@@ -386,7 +303,7 @@ fn picks_turn(
             };
             read_tuples::add(q, from, to, arity, s, site, labels, table, pick)
         }
-        Entry::Step(_) => 3,
+        _ => Err(Cause::OutOfOrder),
     }
 }
 
@@ -399,7 +316,7 @@ fn picks_lines(
     site: &[u8],
     labels: &[usize],
     table: &mut [u64],
-) -> Answer
+) -> Result<usize, Refusal>
     requires sound_signature { SoundSignature q.now g × (n ≤ 64) × PicksRoom g n (length table.old) × (bit table.old ≡ λ i. false) }
     requires labels_are { (ls : List Label) × LabelsAre site.now labels.now n ls }
     ensures { (ls : List Label) → LabelsAre site.now labels.now n ls
@@ -407,13 +324,11 @@ fn picks_lines(
 {
     let end = s.len();
     if read_text::LIMIT < end {
-        return Answer::Refused(1, 0);
+        return Err(Cause::TooLong.at(0));
     }
-    let from = g.from;
-    let to = g.to;
-    let arity = g.arity;
     let mut at = 0;
     let mut k: usize = 0;
+    // no count: the next line begins where this one ends
     while at < end {
         let l = read_line::line(s, at);
         let x = l.entry;
@@ -423,14 +338,13 @@ fn picks_lines(
             count: g.chosen,
             n,
         };
-        let c = picks_turn(q, &from, &to, &arity, s, site, labels, table, line);
-        if c != 0 {
-            return Answer::Refused(c, at);
-        }
+        picks_turn(q, &g.from, &g.to, &g.arity, s, site, labels, table, line).map_err(|c| c.at(
+            at,
+        ))?;
         k += 1;
         at = l.next;
     }
-    Answer::Done(k)
+    Ok(k)
 }
 
 // Reads picks over n elements, whose labels are spans of the site's text: how many, and the picks as bits of the table, which comes in
@@ -443,46 +357,24 @@ pub fn picks(
     site: &[u8],
     labels: &[usize],
     table: &mut [u64],
-) -> Answer
+) -> Result<usize, Refusal>
     requires sound_signature { SoundSignature q.now g × (n ≤ 64) × PicksRoom g n (length table.old) × (bit table.old ≡ λ i. false) }
     requires labels_are { (ls : List Label) × LabelsAre site.now labels.now n ls }
     ensures { (ls : List Label) → LabelsAre site.now labels.now n ls
-        → (result ≡ answered length (read_picks (chosen_of q.now g) (5 + g.rels) n ls s.now)) × PicksIn g n (read_picks (chosen_of q.now g) (5 + g.rels) n ls s.now) (bit table.new) }
+        → PicksRead g n (read_picks (chosen_of q.now g) (5 + g.rels) n ls s.now) result (bit table.new) }
 {
-    let r = picks_lines(q, g, s, n, site, labels, table);
-    match r {
-        Answer::Done(k) => Answer::Done(k),
-        Answer::Refused(k, place) => {
-            let count = table.len();
-            bits::fill(table, count);
-            Answer::Refused(k, place)
-        }
-    }
+    let read = picks_lines(q, g, s, n, site, labels, table);
+    cleared(read, table)
 }
 
-// What a line of a steps sheet gives.
-#[derive(Clone, Copy)]
-enum Verdict {
-    Number(u32),
-    Fault(u32),
-}
-
-fn judge(x: Entry) -> Verdict
-    ensures { result ≡ verdict_of x }
+// The step of a line.
+fn step(x: Entry) -> Result<u32, Cause>
+    ensures { result ≡ step_of x }
 {
     match x {
-        Entry::Wrong => Verdict::Fault(2),
-        Entry::Rel(_, _, _) => Verdict::Fault(3),
-        Entry::Typed(_, _) => Verdict::Fault(3),
-        Entry::Choose(_, _, _, _, _, _, _) => Verdict::Fault(3),
-        Entry::Every(_, _, _) => Verdict::Fault(3),
-        Entry::Rule(_, _) => Verdict::Fault(3),
-        Entry::Size(_) => Verdict::Fault(3),
-        Entry::Label(_, _, _, _) => Verdict::Fault(3),
-        Entry::Member(_, _, _, _) => Verdict::Fault(3),
-        Entry::Fact(_, _, _, _) => Verdict::Fault(3),
-        Entry::Pick(_, _, _, _) => Verdict::Fault(3),
-        Entry::Step(k) => Verdict::Number(k),
+        Entry::Wrong => Err(Cause::NoRecord),
+        Entry::Step(k) => Ok(k),
+        _ => Err(Cause::OutOfOrder),
     }
 }
 
@@ -497,59 +389,33 @@ fn put(out: &mut [u32], n: usize, k: u32)
 
 // Reads a whole sheet of steps to the front of `out`, which has room for as many as its bytes allow. What is in front of a line that is
 // refused stands there too.
-pub fn steps(s: &[u8], out: &mut [u32]) -> Answer
+pub fn steps(s: &[u8], out: &mut [u32]) -> Result<usize, Refusal>
     requires { RoomFor s.now (length out.old) }
-    ensures { (result ≡ answered length (read_steps s.now)) × ((n : ℕ) → result ≡ Done n → out.new ≡ left (read_steps s.now) out.old) }
+    ensures { StepsRead (read_steps s.now) result out.old out.new }
 {
     if read_text::LIMIT < s.len() {
-        return Answer::Refused(1, 0);
+        return Err(Cause::TooLong.at(0));
     }
     let mut at = 0;
     let mut n = 0;
+    // no count: the next line begins where this one ends
     while at < s.len() {
         let l = read_line::line(s, at);
-        let x = l.entry;
-        let v = judge(x);
-        match v {
-            Verdict::Number(k) => {
-                put(out, n, k);
-                n += 1;
-            }
-            Verdict::Fault(a) => {
-                return Answer::Refused(a, at);
-            }
-        }
+        let k = step(l.entry).map_err(|c| c.at(at))?;
+        put(out, n, k);
+        n += 1;
         at = l.next;
     }
-    Answer::Done(n)
+    Ok(n)
 }
 
-// What was read: a refusal's number and place; or fault 0, the relations and types, the rule's span, the number of elements, and the
-// members of the types, a word a type.
+// What was read of a case: its relations and types, the rule's span, the number of elements, and the members of the types, a word a type.
 #[derive(Clone, Copy)]
 pub struct Opened {
-    pub fault: u32,
-    pub place: usize,
     pub sig: Signature,
     pub rule: Span,
     pub n: usize,
     pub members: [u64; read_names::TYPES],
-}
-
-// A case that is refused.
-fn refusal(q: read_question::Asked, fault: u32, place: usize) -> Opened
-    ensures { result ≡ failed q fault place }
-{
-    let sig = q.sig;
-    let rule = q.rule;
-    Opened {
-        fault,
-        place,
-        sig,
-        rule,
-        n: 0,
-        members: [0; read_names::TYPES],
-    }
 }
 
 // Reads the question, then the text of a site of at most `most` elements, whose labels go to the lent numbers, which come in all 0, and
@@ -560,38 +426,29 @@ pub fn read_filed(
     most: usize,
     labels: &mut [usize],
     facts: &mut [u64],
-) -> Opened
+) -> Result<Opened, Refusal>
     requires { (most ≤ 64) × FactsRoom text.now most (length facts.old) × NoLabels labels.old × (bit facts.old ≡ λ i. false) }
     ensures { (L : CaseLimits) → L.elements ≡ most
         → FiledRead question.now text.now (read_filed L question.now text.now) result labels.new (bit facts.new) }
 {
-    let q = read_question::question(question);
-    let fault = q.fault;
-    if fault != 0 {
-        let place = q.place;
-        return refusal(q, fault, place);
-    }
-    let sig = q.sig;
+    let q = read_question::question(question)?;
     let mut members = [0u64; read_names::TYPES];
-    let s = site(question, sig, text, most, labels, &mut members, facts);
-    match s {
-        Answer::Refused(k, place) => refusal(q, k, place),
-        Answer::Done(n) => {
-            let rule = q.rule;
-            Opened {
-                fault: 0,
-                place: 0,
-                sig,
-                rule,
-                n,
-                members,
-            }
-        }
-    }
+    let n = site(question, q.sig, text, most, labels, &mut members, facts)?;
+    Ok(Opened {
+        sig: q.sig,
+        rule: q.rule,
+        n,
+        members,
+    })
 }
 
 // The same for a case whose labels nobody asks for.
-pub fn read_case(question: &[u8], text: &[u8], most: usize, facts: &mut [u64]) -> Opened
+pub fn read_case(
+    question: &[u8],
+    text: &[u8],
+    most: usize,
+    facts: &mut [u64],
+) -> Result<Opened, Refusal>
     requires { (most ≤ 64) × FactsRoom text.now most (length facts.old) × (bit facts.old ≡ λ i. false) }
     ensures { (L : CaseLimits) → L.elements ≡ most → CaseRead question.now (read_case L question.now text.now) result (bit facts.new) }
 {

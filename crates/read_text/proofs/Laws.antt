@@ -1,18 +1,19 @@
 -- Laws of spans and of `split`: a scan a byte at a time, the pieces of a span by the place of its first separator, equal spans.
 use Rattle.std.specs.Prelude.{if◌then◌else◌}
-use Prim.Native.Nat.{ℕ, zero, suc, ◌+◌, ◌-◌, ◌≤◌, ◌<◌}
+use Rattle.std.specs.List.{list_all}
+use Rattle.std.specs.Cmp.Lexicographic.{pointwise}
+use Rattle.std.proofs.lemmas.List.{length-take, take_min, drop_min, drop-take}
+use Prim.Native.Nat.{ℕ, suc, ◌+◌, ◌-◌, ◌≤◌, ◌<◌, min}
 use mathlib.Core.Path.{◌≡◌, refl, sym, ap, ap₂, ◌∙◌}
 use mathlib.Core.Bool.{Bool, true, false, and-false}
 use mathlib.Core.List.{List, [], ◌∷◌, ◌++◌}
 use native.Mathlib.Numerals.{add-one}
-use native.Mathlib.Nat.{zero-add, suc-add}
 use native.Mathlib.Omega.{arith}
-use native.Mathlib.Decide.{dec_lt}
 use lib.Dec.{eqb}
 use lib.ListN.{take-append-drop, length, take, drop, get_or, length-drop, drop_of_length-le}
-use lib.Seq.{slice, slice-cons, slice_empty, length-slice, get_or-drop, get_or-take, take-length, take_all, take-nil, take-take, drop-drop, drop-cons}
+use lib.Seq.{slice, slice-cons, slice_empty, length-slice, get_or-drop, get_or-take, take-length, take-take, drop-drop, drop-cons}
 use borrow.Author.Tests.{eq-eqb, ne_eqb}
-use Rattle.definitions.specs.Lists.{same}
+use Rattle.definitions.specs.Lists.{same, all}
 use Rattle.definitions.specs.Sheet.Text.{split, on_first}
 use Rattle.read_text.specs.Spans.{index_of}
 
@@ -99,13 +100,8 @@ split_some b (c ∷ t) = by_test (eqb c b) (split_some b t)
     by_test true h = omega arith
     by_test false h = rw (on_first_length c (split b t) h) h
 
-drop_take : (m n : ℕ) (l : List ℕ) → drop m (take (m + n) l) ≡ take n (drop m l)
-drop_take zero n l = rw (zero-add n)
-drop_take (suc m) n [] = rw (take-nil (suc m + n), take-nil n)
-drop_take (suc m) n (x ∷ l) = rw (suc-add m n) (drop_take m n l)
-
 span_take : (a k e : ℕ) (s : List ℕ) → a + k ≤ e → slice a (a + k) s ≡ take k (slice a e s)
-span_take a k e s h = ap (drop a) (sym (take-take (a + k) e s h)) ∙ drop_take a k (take e s)
+span_take a k e s h = ap (drop a) (sym (take-take (a + k) e s h)) ∙ drop-take a k (take e s)
 
 span_drop : (a k e : ℕ) (s : List ℕ) → slice (a + k + 1) e s ≡ drop (suc k) (slice a e s)
 span_drop a k e s = let q : a + suc k ≡ a + k + 1 = omega arith in rw (← q, drop-drop (suc k) a (take e s))
@@ -134,21 +130,24 @@ module _ (b at e : ℕ) (s : List ℕ) (h : at ≤ e) (k : e ≤ length s) where
         let p : w ≡ e = omega (arith, end_within) in
         split_last b (slice at e s) (omega (arith, length-slice at e s k))
 
--- ---- the length of a span, which ends with the text at the latest
+-- ---- a span, which ends with the text at the latest
 
-pub span_inner : (a e : ℕ) (s : List ℕ) → e ≤ length s → e - a ≡ length (slice a e s)
-span_inner a e s h = sym (length-slice a e s h)
+module _ (a e n : ℕ) (s : List ℕ) (q : n ≡ min e (length s)) where
+  span_end : take n s ≡ take e s
+  span_end = rw q (take_min e s)
 
-pub span_outer : (a e : ℕ) (s : List ℕ) → length s ≤ e → length s - a ≡ length (slice a e s)
-span_outer a e s h = rw (take_all e s h) (sym (length-drop a s))
+  pub span_size : n - a ≡ length (slice a e s)
+  span_size = sym (length-drop a (take e s) ∙ ap (λ (k : ℕ). k - a) (length-take e s ∙ sym q))
+
+  pub span_is : (m : ℕ) → m ≡ min a n → take (n - m) (drop m s) ≡ slice a e s
+  span_is m p =
+      let k : m + (n - m) ≡ n = omega arith in
+      let l : m ≡ min a (length (take e s)) = p ∙ ap (min a) (q ∙ sym (length-take e s)) in
+      sym (drop-take m (n - m) s) ∙ rw (k, span_end, l) (drop_min a (take e s))
 
 -- an index below the length of a span is one of the text
 pub in_text : (a e : ℕ) (s : List ℕ) (i : ℕ) → i < length (slice a e s) → (a + i < e) × (a + i < length s)
-in_text a e s i h = from_this (dec_lt e (length s))
-  where
-    from_this : Dec (e < length s) → (a + i < e) × (a + i < length s)
-    from_this (yes l) = let z = span_inner a e s (omega arith) in (omega arith, omega arith)
-    from_this (no l) = let z = span_outer a e s (omega arith) in (omega arith, omega arith)
+in_text a e s i h = let z = length-drop a (take e s) in let w = length-take e s in (omega arith, omega arith)
 
 -- ---- two texts, element by element
 
@@ -156,7 +155,7 @@ in_text a e s i h = from_this (dec_lt e (length s))
 pub span_at : (a e : ℕ) (s : List ℕ) (i : ℕ) → a + i < e → get_or (slice a e s) i 0 ≡ get_or s (a + i) 0
 span_at a e s i h = get_or-drop a (take e s) i 0 ∙ get_or-take e s (a + i) 0 h
 
-drop_next : (t : List ℕ) (i : ℕ) → i < length t → drop i t ≡ get_or t i 0 ∷ drop (i + 1) t
+pub drop_next : (t : List ℕ) (i : ℕ) → i < length t → drop i t ≡ get_or t i 0 ∷ drop (i + 1) t
 drop_next t i h = rw (add-one, drop-cons t i 0)
 
 pub same_hit : (x y : List ℕ) (i : ℕ) → i < length x → i < length y → get_or x i 0 ≡ get_or y i 0 → same (drop i x) (drop i y) ≡ same (drop (i + 1) x) (drop (i + 1) y)
@@ -178,20 +177,17 @@ same_length [] (b ∷ y) h = refl
 same_length (a ∷ x) [] h = refl
 same_length (a ∷ x) (b ∷ y) h = rw (same_length x y (λ e. h (ap suc e))) (and-false (eqb a b))
 
--- one byte more of two spans
-module _ (s : List ℕ) (a e : ℕ) (t : List ℕ) (b f i n : ℕ) (p : n ≡ length (slice a e s)) (q : n ≡ length (slice b f t)) where
-  at_both : i < n → (get_or (slice a e s) i 0 ≡ get_or s (a + i) 0) × (get_or (slice b f t) i 0 ≡ get_or t (b + i) 0)
-  at_both h = (span_at a e s i (in_text a e s i (omega arith)).0, span_at b f t i (in_text b f t i (omega arith)).0)
+-- `==` of the library compares as `same` does
+pub same_is : (x y : List ℕ) → pointwise eqb x y ≡ same x y
+unfolding same
+same_is [] [] = refl
+same_is [] (b ∷ y) = refl
+same_is (a ∷ x) [] = refl
+same_is (a ∷ x) (b ∷ y) = rw (same_is x y)
 
-  pub spans_hit : i < n → get_or s (a + i) 0 ≡ get_or t (b + i) 0 → same (drop i (slice a e s)) (drop i (slice b f t)) ≡ same (drop (i + 1) (slice a e s)) (drop (i + 1) (slice b f t))
-  spans_hit h g = same_hit (slice a e s) (slice b f t) i (omega arith) (omega arith) ((at_both h).0 ∙ g ∙ sym (at_both h).1)
+-- ---- tests of all bytes
 
-  pub spans_miss : i < n → (get_or s (a + i) 0 ≡ get_or t (b + i) 0 → ⊥) → same (drop i (slice a e s)) (drop i (slice b f t)) ≡ false
-  spans_miss h g = same_miss (slice a e s) (slice b f t) i (omega arith) (omega arith) (λ w. g (sym (at_both h).0 ∙ w ∙ (at_both h).1))
-
-  pub spans_end : n ≤ i → same (drop i (slice a e s)) (drop i (slice b f t)) ≡ true
-  spans_end h = same_end (slice a e s) (slice b f t) i (omega arith) (omega arith)
-
--- a text as a span of itself
-pub same_whole : (r : Bool) (x w : List ℕ) → r ≡ same x (slice 0 (length w) w) → r ≡ same x w
-same_whole r x w p = p ∙ ap (same x) (slice_all 0 w)
+pub all_list : (p : ℕ → Bool) (t : List ℕ) → list_all p t ≡ all p t
+unfolding all
+all_list p [] = refl
+all_list p (c ∷ t) = rw (all_list p t)

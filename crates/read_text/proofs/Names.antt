@@ -1,88 +1,65 @@
 -- Laws of relation names.
-use Prim.Native.Nat.{ℕ, suc, ◌+◌, ◌-◌, ◌≤◌, ◌<◌}
-use mathlib.Core.Path.{◌≡◌, refl, ◌∙◌}
-use mathlib.Core.Bool.{Bool, true, false, ◌&&◌}
-use mathlib.Core.List.{List}
+use Prim.Native.Nat.{ℕ, suc, ◌-◌, ◌≤◌, ◌<◌}
+use mathlib.Core.Path.{◌≡◌, refl, sym, ◌∙◌}
+use mathlib.Core.Logic.{◌⊎◌, inl, inr}
+use mathlib.Core.Bool.{Bool, true, false, ◌&&◌, and-true}
+use mathlib.Core.List.{List, [], ◌∷◌}
 use native.Mathlib.Omega.{arith}
 use lib.Dec.{eqb, leb}
-use lib.ListN.{length, get_or}
-use lib.Seq.{slice, length-slice}
+use lib.ListN.{length, get_or, take, drop}
 use borrow.Author.Tests.{le-leb, lt-leb}
+use Rattle.std.proofs.Common.{take_all}
+use Rattle.std.specs.List.{list_all}
+use Rattle.std.specs.Char.{is_ascii_digit, is_ascii_uppercase}
 use Rattle.definitions.specs.Lists.{all}
 use Rattle.definitions.specs.Sheet.Text.{is_between, is_capital, is_digit, is_relation_name}
 use Rattle.read_text.specs.Spans.{is_name_byte}
-use Rattle.read_text.proofs.Laws.{slice_next, slice_done}
+use Rattle.read_text.proofs.Laws.{all_list}
 
-pub capital_low : (c : ℕ) → c < 65 → false ≡ is_capital c
+-- the library's tests of a byte
+pub capital_is : (c : ℕ) → is_ascii_uppercase c ≡ is_capital c
 unfolding is_capital is_between
-capital_low c h = simp (lt-leb 65 c h)
+capital_is c = refl
 
-pub capital_high : (c : ℕ) → 65 ≤ c → 90 < c → false ≡ is_capital c
-unfolding is_capital is_between
-capital_high c h k = simp (le-leb 65 c h, lt-leb c 90 k)
+pub byte_capital : (c : ℕ) → is_ascii_uppercase c ≡ true → true ≡ is_name_byte c
+unfolding is_name_byte is_capital is_between
+byte_capital c p = rw p
 
-pub capital_good : (c : ℕ) → 65 ≤ c → c ≤ 90 → true ≡ is_capital c
-unfolding is_capital is_between
-capital_good c h k = simp (le-leb 65 c h, le-leb c 90 k)
+pub byte_digit : (c : ℕ) → is_ascii_uppercase c ≡ false → is_ascii_digit c ≡ true → true ≡ is_name_byte c
+unfolding is_name_byte is_capital is_digit is_between
+byte_digit c p q = rw (p, q)
 
-pub digit_low : (c : ℕ) → c < 48 → false ≡ is_digit c
-unfolding is_digit is_between
-digit_low c h = simp (lt-leb 48 c h)
+pub byte_other : (c : ℕ) → is_ascii_uppercase c ≡ false → is_ascii_digit c ≡ false → eqb c 95 ≡ is_name_byte c
+unfolding is_name_byte is_capital is_digit is_between
+byte_other c p q = rw (p, q)
 
-pub digit_high : (c : ℕ) → 48 ≤ c → 57 < c → false ≡ is_digit c
-unfolding is_digit is_between
-digit_high c h k = simp (le-leb 48 c h, lt-leb c 57 k)
+third_false : (a b : Bool) → (a && b && false) ≡ false
+third_false true true = refl
+third_false true false = refl
+third_false false b = refl
 
-pub digit_good : (c : ℕ) → 48 ≤ c → c ≤ 57 → true ≡ is_digit c
-unfolding is_digit is_between
-digit_good c h k = simp (le-leb 48 c h, le-leb c 57 k)
-
-pub byte_capital : (c : ℕ) → is_capital c ≡ true → true ≡ is_name_byte c
-unfolding is_name_byte
-byte_capital c p = simp p
-
-pub byte_digit : (c : ℕ) → is_capital c ≡ false → is_digit c ≡ true → true ≡ is_name_byte c
-unfolding is_name_byte
-byte_digit c p q = simp (p, q)
-
-pub byte_other : (c : ℕ) → is_capital c ≡ false → is_digit c ≡ false → eqb c 95 ≡ is_name_byte c
-unfolding is_name_byte
-byte_other c p q = simp (p, q)
-
-name_is : (at e : ℕ) (s : List ℕ) → at < e → e ≤ length s → is_relation_name (slice at e s) ≡ (is_capital (get_or s at 0) && all is_name_byte (slice (at + 1) e s) && leb (suc (e - (at + 1))) 12)
-unfolding is_relation_name is_name_byte
-name_is at e s h k = rw (slice_next at e s h k) (rw (length-slice (at + 1) e s k))
-
-pub name_next : (i e : ℕ) (s : List ℕ) → i < e → e ≤ length s → all is_name_byte (slice i e s) ≡ (is_name_byte (get_or s i 0) && all is_name_byte (slice (i + 1) e s))
-unfolding all
-name_next i e s h k = rw (slice_next i e s h k)
-
-second_false : (a b c : Bool) → b ≡ false → (a && b && c) ≡ false
-second_false true b c e = rw e
-second_false false b c e = refl
-
-third_false : (a b c : Bool) → c ≡ false → (a && b && c) ≡ false
-third_false true true c e = rw e
-third_false true false c e = refl
-third_false false b c e = refl
-
-module _ (at e : ℕ) (s : List ℕ) (h : at < e) (k : e ≤ length s) where
-  pub name_long : 12 < e - at → is_relation_name (slice at e s) ≡ false
-  name_long p = name_is at e s h k ∙ third_false (is_capital (get_or s at 0)) (all is_name_byte (slice (at + 1) e s)) _ (lt-leb (suc (e - (at + 1))) 12 (omega arith))
-
-  pub name_head : is_capital (get_or s at 0) ≡ false → is_relation_name (slice at e s) ≡ false
-  name_head p = name_is at e s h k ∙ rw p
-
-  pub name_tail : all is_name_byte (slice (at + 1) e s) ≡ false → is_relation_name (slice at e s) ≡ false
-  name_tail p = name_is at e s h k ∙ second_false (is_capital (get_or s at 0)) (all is_name_byte (slice (at + 1) e s)) _ p
-
-  pub name_good : is_capital (get_or s at 0) ≡ true → e - at ≤ 12 → all is_name_byte (slice (at + 1) e s) ≡ true → is_relation_name (slice at e s) ≡ true
-  name_good p q r = name_is at e s h k ∙ rw (p, le-leb (suc (e - (at + 1))) 12 (omega arith), r)
-
-pub name_empty : (at e : ℕ) (s : List ℕ) → at ≤ e → e ≤ at → is_relation_name (slice at e s) ≡ false
+-- a name by its first byte and the others
+pub name_empty : (t : List ℕ) → length t < 1 → false ≡ is_relation_name t
 unfolding is_relation_name
-name_empty at e s h k = rw (slice_done at e s h k)
+name_empty [] h = refl
+name_empty (b ∷ t) h = absurd (omega arith)
 
-pub names_end : (at e : ℕ) (s : List ℕ) → at ≤ e → e ≤ at → all is_name_byte (slice at e s) ≡ true
-unfolding all
-names_end at e s h k = rw (slice_done at e s h k)
+-- the bytes after the first, as the pattern of the code takes them
+abbrev others : List ℕ → List ℕ
+others t = take (length t - 1) (drop 1 t)
+
+name_is : (t : List ℕ) → 1 ≤ length t → is_relation_name t ≡ (is_capital (get_or t 0 0) && all is_name_byte (others t) && leb (suc (length (others t))) 12)
+unfolding is_relation_name is_name_byte
+name_is [] h = absurd (omega arith)
+name_is (b ∷ t) h = let q : suc (length t) - 1 ≡ length t = omega arith in rw (q, take_all (length t) t (omega arith))
+
+module _ (t : List ℕ) (h : 1 ≤ length t) (b : Bool) (p : b ≡ is_ascii_uppercase (get_or t 0 0)) where
+  head_is : is_capital (get_or t 0 0) ≡ b
+  head_is = sym (p ∙ capital_is (get_or t 0 0))
+
+  pub name_refused : (b ≡ false) ⊎ ((b ≡ true) × (12 ≤ length (others t))) → false ≡ is_relation_name t
+  name_refused (inl q) = sym (name_is t h ∙ rw (head_is, q))
+  name_refused (inr q) = sym (name_is t h ∙ rw (lt-leb (suc (length (others t))) 12 (omega arith)) (third_false (is_capital (get_or t 0 0)) (all is_name_byte (others t))))
+
+  pub name_good : b ≡ true → length (others t) < 12 → list_all is_name_byte (others t) ≡ is_relation_name t
+  name_good q l = sym (name_is t h ∙ rw (head_is, q, le-leb (suc (length (others t))) 12 (omega arith)) (and-true (all is_name_byte (others t))) ∙ sym (all_list is_name_byte (others t)))

@@ -4,27 +4,14 @@
 ghost use Rattle.std.specs.Prelude.{◌≡◌, ◌+◌, ◌≤◌, ◌<◌, length};
 ghost use Rattle.std.proofs.Math.Seq.{slice};
 ghost use Rattle.definitions.specs.Lists.{same as sameText};
-ghost use Rattle.definitions.specs.Sheet.Text.{number as number_of, is_relation_name, is_capital, is_digit};
-ghost use Rattle.read_text.specs.Spans.{index_of, is_name_byte, num_of};
+ghost use Rattle.definitions.specs.Sheet.Text.{number as number_of, is_relation_name};
+ghost use Rattle.read_text.specs.Spans.{index_of, is_name_byte, option_of};
 
 // The most bytes of a text.
 pub const LIMIT: usize = 1048576;
 
-// A number of a field, or none.
-#[derive(Clone, Copy)]
-pub enum Num {
-    Is(u32),
-    Bad,
-}
-
-// A place or an index, or none.
-#[derive(Clone, Copy)]
-pub enum Found {
-    At(usize),
-    Nowhere,
-}
-
-// The index of the first b in s from index `at` up to `end`, or `end` where there is none. Four bytes a turn: reading is mostly this.
+// The index of the first b in s from index `at` up to `end`, or `end` where there is none. Reading is mostly this, so the loop takes
+// four bytes a turn.
 pub fn find(s: &[u8], at: usize, end: usize, b: u8) -> usize
     requires { (at ≤ end) × (end ≤ length s.now) }
     ensures { result ≡ at + index_of b (slice at end s.now) }
@@ -45,11 +32,10 @@ pub fn find(s: &[u8], at: usize, end: usize, b: u8) -> usize
         }
         i += 4;
     }
-    while i < end {
-        if s[i] == b {
-            return i;
+    for k in i..end {
+        if s[k] == b {
+            return k;
         }
-        i += 1;
     }
     end
 }
@@ -58,113 +44,58 @@ pub fn find(s: &[u8], at: usize, end: usize, b: u8) -> usize
 pub fn span_length(s: &[u8], a: usize, e: usize) -> usize
     ensures { result ≡ length (slice a e s.now) }
 {
-    let n = s.len();
-    if e < n {
-        if e < a {
-            return 0;
-        }
-        return e - a;
-    }
-    if n < a {
-        return 0;
-    }
-    n - a
+    e.min(s.len()).saturating_sub(a)
+}
+
+// Its bytes.
+fn span(s: &[u8], a: usize, e: usize) -> &[u8]
+    ensures { result.now ≡ slice a e s.now }
+{
+    let end = e.min(s.len());
+    &s[a.min(end)..end]
 }
 
 // Two spans, of two texts, hold the same bytes.
 pub fn same_span(s: &[u8], a: usize, e: usize, t: &[u8], b: usize, f: usize) -> bool
     ensures { result ≡ sameText (slice a e s.now) (slice b f t.now) }
 {
-    let n = span_length(s, a, e);
-    if n != span_length(t, b, f) {
-        return false;
-    }
-    let mut i = 0;
-    while i < n {
-        if s[a + i] != t[b + i] {
-            return false;
-        }
-        i += 1;
-    }
-    true
+    span(s, a, e) == span(t, b, f)
 }
 
 // The span is the word w.
 pub fn word(s: &[u8], a: usize, e: usize, w: &[u8]) -> bool
     ensures { result ≡ sameText (slice a e s.now) w.now }
 {
-    same_span(s, a, e, w, 0, w.len())
+    span(s, a, e) == w
 }
 
 // The number that the span writes: 1 to 7 digits, 0 first only where it stands alone.
-pub fn number(s: &[u8], at: usize, end: usize) -> Num
+pub fn number(s: &[u8], at: usize, end: usize) -> Option<u32>
     requires { (at ≤ end) × (end ≤ length s.now) }
-    ensures { result ≡ num_of (number_of (slice at end s.now)) }
+    ensures { result ≡ option_of (number_of (slice at end s.now)) }
 {
-    if end == at {
-        return Num::Bad;
+    let digits = span(s, at, end);
+    if digits.is_empty() || 7 < digits.len() {
+        return None;
     }
-    let n = end - at;
-    if 7 < n {
-        return Num::Bad;
+    if digits[0] == b'0' && 1 < digits.len() {
+        return None;
     }
-    if s[at] == 48 {
-        if n == 1 {
-            return Num::Is(0);
+    let mut v = 0;
+    for c in digits {
+        if !c.is_ascii_digit() {
+            return None;
         }
-        return Num::Bad;
+        v = v * 10 + (*c - b'0') as u32;
     }
-    let mut v: u32 = 0;
-    let mut i = at;
-    while i < end {
-        let c = s[i];
-        if c < 48 {
-            return Num::Bad;
-        }
-        if 57 < c {
-            return Num::Bad;
-        }
-        v = v * 10 + (c - 48) as u32;
-        i += 1;
-    }
-    Num::Is(v)
-}
-
-fn is_capital(c: u8) -> bool
-    ensures { result ≡ is_capital c }
-{
-    if c < 65 {
-        return false;
-    }
-    if 90 < c {
-        return false;
-    }
-    true
-}
-
-fn is_digit(c: u8) -> bool
-    ensures { result ≡ is_digit c }
-{
-    if c < 48 {
-        return false;
-    }
-    if 57 < c {
-        return false;
-    }
-    true
+    Some(v)
 }
 
 // A byte of a relation's name after the first.
 fn is_name_byte(c: u8) -> bool
     ensures { result ≡ is_name_byte c }
 {
-    if is_capital(c) {
-        return true;
-    }
-    if is_digit(c) {
-        return true;
-    }
-    c == 95
+    c.is_ascii_uppercase() || c.is_ascii_digit() || c == b'_'
 }
 
 // The span is a relation's name.
@@ -172,24 +103,11 @@ pub fn is_relation_name(s: &[u8], at: usize, end: usize) -> bool
     requires { (at ≤ end) × (end ≤ length s.now) }
     ensures { result ≡ is_relation_name (slice at end s.now) }
 {
-    if end == at {
+    let [first, others @ ..] = span(s, at, end) else {
+        return false;
+    };
+    if !first.is_ascii_uppercase() || 12 <= others.len() {
         return false;
     }
-    if 12 < end - at {
-        return false;
-    }
-    let first = s[at];
-    if is_capital(first) {
-        let mut i = at + 1;
-        while i < end {
-            let c = s[i];
-            if is_name_byte(c) {
-                i += 1;
-            } else {
-                return false;
-            }
-        }
-        return true;
-    }
-    false
+    others.iter().all(|c| is_name_byte(*c))
 }

@@ -1,5 +1,7 @@
 -- Adding a tuple of the text: the tests 7, 9 and 18 find its bit, and the bit decides 10.
-use Prim.Native.Nat.{ℕ, zero, suc, ◌+◌, ◌-◌, ◌*◌, ◌^◌, ◌/◌, ◌≤◌, ◌<◌}
+use Prim.Native.Nat.{ℕ, suc, ◌+◌, ◌-◌, ◌*◌, ◌^◌, ◌/◌, ◌%◌, ◌≤◌, ◌<◌}
+use Rattle.std.specs.Prelude.{min, Some, None}
+use Rattle.std.specs.Prelude as P
 use mathlib.Core.Path.{◌≡◌, refl, sym, ap, ap₂, subst, ◌∙◌}
 use mathlib.Core.Bool.{Bool, true, false, ◌&&◌}
 use mathlib.Core.Option.{Option, none, some}
@@ -16,14 +18,13 @@ use Rattle.definitions.specs.Sheet.Sheets as D
 use Rattle.laws.specs.Writing.{and_r}
 use Rattle.bits.specs.Table.{bit, put}
 use Rattle.laws.specs.Labels.{LabelsFit}
-use Rattle.read_text.specs.Spans.{place_of}
-use Rattle.read_text.specs.declared.Found.{Found}
-use Rattle.read_text.specs.declared.Found.TheVariants.{At, Nowhere}
+use Rattle.read_text.specs.Spans.{option_of}
 use Rattle.read_names.specs.declared.Signature.{Signature}
 use Rattle.read_names.specs.Signatures.{lent_of, relation_in, relations_from, matches, counted}
 use Rattle.read_names.proofs.Laws.{found_some, found_none, look_found}
-use Rattle.read_tuples.specs.declared.Mark.{Mark}
-use Rattle.read_tuples.specs.declared.Mark.TheVariants.{Bit, Fault}
+use Rattle.refusal.specs.declared.Cause.{Cause}
+use Rattle.refusal.specs.declared.Cause.TheVariants.{Unknown, OutOfRange, Repeated, BadLabel}
+use Rattle.std.specs.Prelude.{Result, Ok, Err}
 use Rattle.read_tuples.specs.Labels.{values}
 use Rattle.read_tuples.specs.Marks.{are_below, InRow, first_word, bit_of, marks, Valid, AllValid, Stands, Spotted, Adds, Added}
 use Rattle.read_tuples.proofs.Naming.{values_in, values_out}
@@ -57,7 +58,7 @@ module _ (rs : List Relation) (first n : ℕ) (ls : List D.Label) (ts : List Tup
       tuple_in xs e = rw (p, b, e)
 
 -- what was looked up is what is used
-used_is : (rs : List Relation) (first lo : ℕ) (name : List ℕ) (k : ℕ) (o : Option ℕ) → counted lo (position (matches name false k) rs) ≡ o → D.used rs (5 + lo) name k ≡ option o none (λ i. some (5 + i))
+used_is : (rs : List Relation) (first lo : ℕ) (name : List ℕ) (k : ℕ) (o : Option ℕ) → counted lo (position (matches name (Some k)) rs) ≡ o → D.used rs (5 + lo) name k ≡ option o none (λ i. some (5 + i))
 unfolding D.used counted matches option
 used_is rs first lo name k o e = rw (← e) (by_option (position (λ (r : Relation). same r.name name && eqb r.arity k) rs))
   where
@@ -65,35 +66,35 @@ used_is rs first lo name k o e = rw (← e) (by_option (position (λ (r : Relati
     by_option none = refl
     by_option (some i) = let z : 5 + lo + i ≡ 5 + (lo + i) = omega arith in ap (λ (m : ℕ). some m) z
 
-match_arity : (q : List ℕ) (g : Signature) (name : List ℕ) (k i : ℕ) → matches name false k (relation_in q g i) ≡ true → get_or g.arity i 0 ≡ k
+match_arity : (q : List ℕ) (g : Signature) (name : List ℕ) (k i : ℕ) → matches name (Some k) (relation_in q g i) ≡ true → get_or g.arity i 0 ≡ k
 unfolding matches relation_in
 match_arity q g name k i p = eqb-true (get_or g.arity i 0) k (and_r (same (relation_in q g i).name name) (eqb (get_or g.arity i 0) k) p)
 
 -- ---- the bit
 
-module _ (q : List ℕ) (g : Signature) (lo m n : ℕ) (ls : List D.Label) (name : List ℕ) (es : List D.Element) (k : ℕ) (e : k ≡ length es) (f : Found) (w : f ≡ place_of (counted lo (position (matches name false k) (relations_from q g lo m)))) where
-  pub spot_unknown : f ≡ Nowhere → Spotted q g lo m n ls name es (Fault 7)
+module _ (q : List ℕ) (g : Signature) (lo m n : ℕ) (ls : List D.Label) (name : List ℕ) (es : List D.Element) (k : ℕ) (e : k ≡ length es) (f : P.Option ℕ) (w : f ≡ option_of (counted lo (position (matches name (Some k)) (relations_from q g lo m)))) where
+  pub spot_unknown : f ≡ None → Spotted q g lo m n ls name es (Err Unknown)
   unfolding Spotted option
-  spot_unknown p = (omega arith, λ ts at. tuple_7 (relations_from q g lo m) (5 + lo) n ls ts at name es (rw (← e) (used_is (relations_from q g lo m) 5 lo name k none (found_none _ f p w))))
+  spot_unknown p = λ ts at. tuple_7 (relations_from q g lo m) (5 + lo) n ls ts at name es (rw (← e) (used_is (relations_from q g lo m) 5 lo name k none (found_none _ f p w)))
 
-  module _ (i : ℕ) (p : f ≡ At i) where
+  module _ (i : ℕ) (p : f ≡ Some i) where
     pub found_bounds : (lo ≤ i) × (i < lo + m) × (get_or g.arity i 0 ≡ k)
-    found_bounds = let v = look_found q g (matches name false k) lo m i f p w in (v.0, v.1, match_arity q g name k i v.2)
+    found_bounds = let v = look_found q g (matches name (Some k)) lo m i f p w in (v.0, v.1, match_arity q g name k i v.2)
 
     used_there : D.used (relations_from q g lo m) (5 + lo) name (length es) ≡ some (5 + i)
     unfolding option
     used_there = rw (← e) (used_is (relations_from q g lo m) 5 lo name k (some i) (found_some _ i f p w))
 
-    pub spot_outside : false ≡ all (D.is_in_range n) es → Spotted q g lo m n ls name es (Fault 9)
+    pub spot_outside : false ≡ all (D.is_in_range n) es → Spotted q g lo m n ls name es (Err OutOfRange)
     unfolding Spotted
-    spot_outside b = (omega arith, λ ts at. tuple_9 (relations_from q g lo m) (5 + lo) n ls ts at name es (5 + i) used_there (sym b))
+    spot_outside b = λ ts at. tuple_9 (relations_from q g lo m) (5 + lo) n ls ts at name es (5 + i) used_there (sym b)
 
-    module _ (r : Found) (u : InRow n (values n ls es) r) where
-      pub spot_nobody : LabelsFit n ls → r ≡ Nowhere → true ≡ all (D.is_in_range n) es → Spotted q g lo m n ls name es (Fault 18)
+    module _ (r : P.Option ℕ) (u : InRow n (values n ls es) r) where
+      pub spot_nobody : LabelsFit n ls → r ≡ None → true ≡ all (D.is_in_range n) es → Spotted q g lo m n ls name es (Err BadLabel)
       unfolding Spotted InRow
-      spot_nobody F z b = (omega arith, λ ts at. tuple_18 (relations_from q g lo m) (5 + lo) n ls ts at name es (5 + i) used_there (sym b) (values_out n ls F es (subst (λ (r : Found). InRow n (values n ls es) r) z u) (sym b)))
+      spot_nobody F z b = λ ts at. tuple_18 (relations_from q g lo m) (5 + lo) n ls ts at name es (5 + i) used_there (sym b) (values_out n ls F es (subst (λ (r : P.Option ℕ). InRow n (values n ls es) r) z u) (sym b))
 
-      module _ (b : ℕ) (z : r ≡ At b) (t : ℕ) (h : (t ≡ first_word g n lo (i - lo)) × (t ≤ 4096 * (i - lo))) (few : n ≤ 64) (k3 : k ≤ 3) where
+      module _ (b : ℕ) (z : r ≡ Some b) (t : ℕ) (h : (t ≡ first_word g n lo (i - lo)) × (t ≤ 4096 * (i - lo))) (few : n ≤ 64) (k3 : k ≤ 3) where
         value_count : length (values n ls es) ≡ length es
         unfolding values
         value_count = length-map es _
@@ -103,7 +104,7 @@ module _ (q : List ℕ) (g : Signature) (lo m n : ℕ) (ls : List D.Label) (name
 
         inside : are_below n (values n ls es) ≡ true
         unfolding InRow
-        inside = (subst (λ (r : Found). InRow n (values n ls es) r) z u).0
+        inside = (subst (λ (r : P.Option ℕ). InRow n (values n ls es) r) z u).0
 
         valid : Valid g n lo m (record { relation = 5 + i; places = values n ls es })
         unfolding Valid
@@ -116,11 +117,11 @@ module _ (q : List ℕ) (g : Signature) (lo m n : ℕ) (ls : List D.Label) (name
         unfolding bit_of InRow
         its_bit =
             let j : 5 + i - (5 + lo) ≡ i - lo = omega arith in
-            let y = (subst (λ (r : Found). InRow n (values n ls es) r) z u).1 in
+            let y = (subst (λ (r : P.Option ℕ). InRow n (values n ls es) r) z u).1 in
             let c : first_word g n lo (5 + i - (5 + lo)) ≡ t = ap (first_word g n lo) j ∙ sym h.0 in
             omega (arith, c, y)
 
-        pub spot_bit : Spotted q g lo m n ls name es (Bit (t * 64 + b))
+        pub spot_bit : Spotted q g lo m n ls name es (Ok (t * 64 + b))
         unfolding Spotted
         spot_bit =
             let v = found_bounds in
@@ -134,19 +135,15 @@ module _ (q : List ℕ) (g : Signature) (lo m n : ℕ) (ls : List D.Label) (name
 
 -- ---- adding
 
-module _ (q : List ℕ) (g : Signature) (lo m n : ℕ) (ls : List D.Label) (name : List ℕ) (es : List D.Element) (old new : List ℕ) (r : Mark) (w : Spotted q g lo m n ls name es r) where
-  pub add_fault : (k : ℕ) → r ≡ Fault k → Added q g lo m n ls name es old new k
+module _ (q : List ℕ) (g : Signature) (lo m n : ℕ) (ls : List D.Label) (name : List ℕ) (es : List D.Element) (old new : List ℕ) (r : Result ℕ Cause) (w : Spotted q g lo m n ls name es r) where
+  pub add_fault : (k : Cause) → r ≡ Err k → Added q g lo m n ls name es old new (Err k)
   unfolding Added Spotted Adds
-  add_fault k p ts at v b = by_number k (subst (λ (r : Mark). Spotted q g lo m n ls name es r) p w).0 ((subst (λ (r : Mark). Spotted q g lo m n ls name es r) p w).1 ts at)
-    where
-      by_number : (k : ℕ) → 1 ≤ k → D.add_tuple (relations_from q g lo m) (5 + lo) n ls ts at name es ≡ refused k at → Adds q g lo m n ls name es ts at new k
-      by_number zero h e = absurd (omega arith)
-      by_number (suc k) h e = e
+  add_fault k p ts at v b = subst (λ (r : Result ℕ Cause). Spotted q g lo m n ls name es r) p w ts at
 
-  module _ (b : ℕ) (p : r ≡ Bit b) where
+  module _ (b : ℕ) (p : r ≡ Ok b) where
     there : Stands q g lo m n ls name es b
     unfolding Spotted
-    there = subst (λ (r : Mark). Spotted q g lo m n ls name es r) p w
+    there = subst (λ (r : Result ℕ Cause). Spotted q g lo m n ls name es r) p w
 
     pub spot_limit : b < 64 * first_word g n lo m
     spot_limit = there.small
@@ -154,11 +151,11 @@ module _ (q : List ℕ) (g : Signature) (lo m n : ℕ) (ls : List D.Label) (name
     among : (ts : List Tuple) → AllValid g n lo m ts → bit old ≡ marks (bit_of g n lo) ts → bit old b ≡ is_among there.tuple ts
     among ts v c = ap (λ (y : ℕ → Bool). y b) c ∙ ap (marks (bit_of g n lo) ts) (sym there.its_bit) ∙ marks_among g n lo m there.tuple ts there.valid v
 
-    pub add_10 : bit old b ≡ true → Added q g lo m n ls name es old new 10
+    pub add_10 : bit old b ≡ true → Added q g lo m n ls name es old new (Err Repeated)
     unfolding Added Adds refuse_if ◌>>=◌
     add_10 a ts at v c = there.adds ts at ∙ rw (sym (among ts v c) ∙ a)
 
-    pub add_0 : bit old b ≡ false → bit new ≡ put (bit old) b true → Added q g lo m n ls name es old new 0
+    pub add_0 : bit old b ≡ false → bit new ≡ put (bit old) b true → Added q g lo m n ls name es old new (Ok tt)
     unfolding Added Adds refuse_if ◌>>=◌
     add_0 a d ts at v c = (
       there.tuple,
@@ -169,16 +166,9 @@ module _ (q : List ℕ) (g : Signature) (lo m n : ℕ) (ls : List D.Label) (name
 
 -- ---- the first word
 
-pub word_next : (g : Signature) (n lo j sum p : ℕ) → lo ≤ j → sum ≡ first_word g n lo (j - lo) → p ≡ n ^ get_or g.arity j 0 → sum + (p + 63) / 64 ≡ first_word g n lo (j + 1 - lo)
+pub word_next : (g : Signature) (n lo m sum p r : ℕ) → sum ≡ first_word g n lo m → p ≡ n ^ get_or g.arity (lo + m) 0 → r ≡ p / 64 + min 1 (p % 64) → sum + r ≡ first_word g n lo (m + 1)
 unfolding first_word words_for
-word_next g n lo j sum p l h e =
-    let z : j + 1 - lo ≡ suc (j - lo) = omega arith in
-    let y : j ≡ lo + (j - lo) = omega arith in
-    rw z (ap₂ (λ (x y : ℕ). x + (y + 63) / 64) h (e ∙ ap (λ (i : ℕ). n ^ get_or g.arity i 0) y))
-
-pub word_limit : (lo j sum p : ℕ) → lo ≤ j → sum ≤ 4096 * (j - lo) → p ≤ 262144 → sum + (p + 63) / 64 ≤ 4096 * (j + 1 - lo)
-word_limit lo j sum p l b q = omega arith
-
-pub word_none : (g : Signature) (n lo : ℕ) → 0 ≡ first_word g n lo (lo - lo)
-unfolding first_word
-word_none g n lo = let z : lo - lo ≡ 0 = omega arith in rw z
+word_next g n lo m sum p r h e q =
+    let z : m + 1 ≡ suc m = omega arith in
+    let y : r ≡ (p + 63) / 64 = omega arith in
+    rw (z, y, h, e)

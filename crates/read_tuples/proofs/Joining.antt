@@ -1,9 +1,12 @@
 -- One member more: its type, its element, and the words that then say it.
+use Rattle.std.specs.Prelude.{Some, None}
+use Rattle.std.specs.Prelude as P
 use Prim.Native.Nat.{ℕ, ◌+◌, ◌*◌, ◌<◌, ◌≤◌}
 use mathlib.Core.Path.{◌≡◌, refl, sym, ap, ap₂, subst, ◌∙◌}
 use mathlib.Core.Bool.{Bool, true, false, cond, ◌&&◌, ◌||◌, or-false, or-true, and-false}
 use mathlib.Core.List.{List, [], ◌∷◌, ◌++◌}
 use mathlib.Core.Option.{Option, none, some}
+use Rattle.std.specs.Prelude.{Ok, Err}
 use native.Mathlib.Omega.{arith}
 use native.Mathlib.Decide.{ℕ_discrete}
 use lib.Dec.{eqb, ltb→lt}
@@ -17,9 +20,8 @@ use Rattle.bits.specs.Table.{bit, put}
 use Rattle.laws.specs.Booleans.{T_of, or_assoc}
 use Rattle.laws.specs.Labels.{LabelsFit, means_small}
 use Rattle.laws.specs.Reader.{mem_snoc}
-use Rattle.read_text.specs.Spans.{place_of}
-use Rattle.read_text.specs.declared.Found.{Found}
-use Rattle.read_text.specs.declared.Found.TheVariants.{At, Nowhere}
+use Rattle.refusal.specs.declared.Cause.TheVariants.{OutOfRange, Repeated, BadLabel, BadType}
+use Rattle.read_text.specs.Spans.{option_of}
 use Rattle.read_names.proofs.Laws.{found_some, found_none, position_some}
 use Rattle.read_tuples.specs.Labels.{meant}
 use Rattle.read_tuples.specs.Members.{member_draft, MemberAdds, MemberAdded}
@@ -92,12 +94,12 @@ meant_some n (some y) x e l = ap some (sym e)
 
 -- ---- the answers
 
-module _ (types : List (List ℕ)) (n : ℕ) (ls : List D.Label) (name : List ℕ) (e : D.Element) (old new : List ℕ) (f : Found) (w : f ≡ place_of (type_number types name)) where
-  pub member_untyped : f ≡ Nowhere → MemberAdded types n ls name e old new 19
+module _ (types : List (List ℕ)) (n : ℕ) (ls : List D.Label) (name : List ℕ) (e : D.Element) (old new : List ℕ) (f : P.Option ℕ) (w : f ≡ option_of (type_number types name)) where
+  pub member_untyped : f ≡ None → MemberAdded types n ls name e old new (Err BadType)
   unfolding MemberAdded MemberAdds
   member_untyped p ms at M = line_19 types n ls name e ms at (found_none _ f p w)
 
-  module _ (j : ℕ) (p : f ≡ At j) where
+  module _ (j : ℕ) (p : f ≡ Some j) where
     its_number : type_number types name ≡ some j
     its_number = found_some _ j f p w
 
@@ -105,21 +107,21 @@ module _ (types : List (List ℕ)) (n : ℕ) (ls : List D.Label) (name : List �
     unfolding type_number
     type_below = (position_some _ types j [] its_number).0
 
-    pub member_wide : D.is_in_range n e ≡ false → MemberAdded types n ls name e old new 9
+    pub member_wide : D.is_in_range n e ≡ false → MemberAdded types n ls name e old new (Err OutOfRange)
     unfolding MemberAdded MemberAdds
     member_wide h ms at M = line_9 types n ls name e ms at j its_number h
 
     module _ (F : LabelsFit n ls) (h : D.is_in_range n e ≡ true) (x : ℕ) (v : x ≡ meant n (D.element_of ls e)) where
-      pub member_nobody : n ≤ x → MemberAdded types n ls name e old new 18
+      pub member_nobody : n ≤ x → MemberAdded types n ls name e old new (Err BadLabel)
       unfolding MemberAdded MemberAdds
       member_nobody l ms at M = line_18 types n ls name e ms at j its_number h (meant_none n ls F e h (subst (λ (y : ℕ). n ≤ y) v l))
 
       module _ (l : x < n) (few : n ≤ 64) where
-        pub member_again : bit old (64 * j + x) ≡ true → MemberAdded types n ls name e old new 10
+        pub member_again : bit old (64 * j + x) ≡ true → MemberAdded types n ls name e old new (Err Repeated)
         unfolding MemberAdded MemberAdds
         member_again b ms at M = line_10 types n ls name e ms at j its_number h x (meant_some n _ x v l) (sym (M.says j x (omega arith)) ∙ b)
 
-        pub member_new : bit old (64 * j + x) ≡ false → length new ≡ 8 → bit new ≡ put (bit old) (64 * j + x) true → MemberAdded types n ls name e old new 0
+        pub member_new : bit old (64 * j + x) ≡ false → length new ≡ 8 → bit new ≡ put (bit old) (64 * j + x) true → MemberAdded types n ls name e old new (Ok tt)
         unfolding MemberAdded MemberAdds
         member_new b r s ms at M = (
           record { type = j; element = x },

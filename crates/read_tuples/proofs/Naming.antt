@@ -3,9 +3,9 @@ use Rattle.std.specs.Prelude.{if◌then◌else◌}
 use Prim.Native.Nat.{ℕ, zero, suc, ◌+◌, ◌-◌, ◌*◌, ◌≤◌, ◌<◌}
 use mathlib.Core.Path.{◌≡◌, refl, sym, ap, ap₂, subst, ◌∙◌}
 use mathlib.Core.Logic.{⊎_elim, inl, inr}
-use mathlib.Core.Bool.{Bool, true, false, not, and-true}
+use mathlib.Core.Bool.{Bool, true, false, not}
 use mathlib.Core.Option.{Option, none, some}
-use mathlib.Core.List.{List, [], ◌∷◌, ◌++◌, map}
+use mathlib.Core.List.{List, [], ◌∷◌, ◌++◌}
 use native.Mathlib.Decide.{ℕ_discrete, dec_lt}
 use native.Mathlib.Omega.{arith}
 use lib.Dec.{T, eqb, ltb, not_T}
@@ -23,7 +23,9 @@ use Rattle.laws.specs.Lists.{none_some, some_eq}
 use Rattle.laws.specs.Tuples.{same_eq, same_refl}
 use Rattle.read_line.specs.Entries.{Fielded, codes_of, element_by, elements_by, list_of}
 use Rattle.read_line.specs.declared.Places.{Places}
-use Rattle.read_line.specs.declared.Places.TheVariants.{Unread, One, Two, Three}
+use Rattle.read_line.specs.declared.Places.TheVariants.{One, Two, Three}
+use Rattle.refusal.specs.declared.Cause.TheVariants.{OutOfRange, BadLabel}
+use Rattle.std.specs.Prelude.{Ok, Err}
 use Rattle.read_text.specs.Spans.{index_of}
 use Rattle.read_text.proofs.Laws.{in_text, span_at, pieces_at, pieces_whole, split_some}
 use Rattle.read_tuples.specs.Labels.{spanned, LabelsAre, meant, values, is_number, LabelAdds, LabelAdded}
@@ -161,36 +163,6 @@ numbers_mean n ls (f ∷ fs) (k ∷ ks) h e =
     let (a, b) = and_both (not (eqb k 10000000)) (all is_number ks) e in
     ap₂ ◌∷◌ (number_means f k n (eqb-false k 10000000 (not-true (eqb k 10000000) a)) ls) (numbers_mean n ls fs ks (omega arith) b)
 
-module _ (p : Places) where
-  pub number_none : p ≡ Unread → true ≡ all is_number (codes_of p)
-  unfolding codes_of all
-  number_none e = rw e refl
-
-  pub number_1 : (x : ℕ) → p ≡ One x → (b : Bool) → b ≡ is_number x → b ≡ all is_number (codes_of p)
-  unfolding codes_of all
-  number_1 x e b h = rw e (h ∙ sym (and-true (is_number x)))
-
-  pub number_2 : (x y : ℕ) → p ≡ Two x y → (b : Bool) → (x ≡ 10000000 → ⊥) → b ≡ is_number y → b ≡ all is_number (codes_of p)
-  unfolding codes_of all is_number
-  number_2 x y e b n h = rw (e, ne_eqb x 10000000 n) (h ∙ sym (and-true (is_number y)))
-
-  pub name_of_2 : (x y : ℕ) → p ≡ Two x y → x ≡ 10000000 → false ≡ all is_number (codes_of p)
-  unfolding codes_of all is_number
-  name_of_2 x y e n = rw (e, eq-eqb x 10000000 n) refl
-
-  module _ (x y z : ℕ) (e : p ≡ Three x y z) where
-    pub number_3 : (b : Bool) → (x ≡ 10000000 → ⊥) → (y ≡ 10000000 → ⊥) → b ≡ is_number z → b ≡ all is_number (codes_of p)
-    unfolding codes_of all is_number
-    number_3 b n m h = rw (e, ne_eqb x 10000000 n, ne_eqb y 10000000 m) (h ∙ sym (and-true (is_number z)))
-
-    pub first_of_3 : x ≡ 10000000 → false ≡ all is_number (codes_of p)
-    unfolding codes_of all is_number
-    first_of_3 n = rw (e, eq-eqb x 10000000 n) refl
-
-    pub second_of_3 : (x ≡ 10000000 → ⊥) → y ≡ 10000000 → false ≡ all is_number (codes_of p)
-    unfolding codes_of all is_number
-    second_of_3 n m = rw (e, ne_eqb x 10000000 n, eq-eqb y 10000000 m) refl
-
 -- ---- the fields of a span: one, or the first and the others
 
 module _ (s : List ℕ) (a e : ℕ) (h : a ≤ e) (k : e ≤ length s) where
@@ -216,14 +188,6 @@ module _ (s : List ℕ) (a e : ℕ) (h : a ≤ e) (k : e ≤ length s) where
     fields_after = let v = ap length first_field in omega (arith, v)
 
 module _ (s : List ℕ) (a e : ℕ) (p : Places) (w : Fielded s a e p) (n : ℕ) (ls : List D.Label) where
-  pub values_none : p ≡ Unread → codes_of Unread ≡ values n ls (list_of s a e p)
-  unfolding codes_of list_of values elements_by
-  values_none r = rw r (by_list (split 9 (slice a e s)))
-    where
-      by_list : (fs : List (List ℕ)) → [] ≡ map (λ x. meant n (D.element_of ls x)) (elements_by fs [])
-      by_list [] = refl
-      by_list (f ∷ fs) = refl
-
   pub values_1 : (x u : ℕ) → p ≡ One x → u ≡ meant n (D.element_of ls (element_by (slice a e s) x)) → codes_of (One u) ≡ values n ls (list_of s a e p)
   unfolding codes_of list_of values elements_by
   values_1 x u r v = rw (r, one_field s a e w.starts w.ends (w.count ∙ ap (λ (p : Places). length (codes_of p)) r)) (ap (λ (y : ℕ). y ∷ []) v)
@@ -293,10 +257,6 @@ fit_last n k true h = fit_cons n k [] true h (fit_nil n)
 fit_last n k false h = unfit_cons n k [] h
 
 module _ (n : ℕ) (p : Places) where
-  pub fit_none : p ≡ Unread → (fs : List (List ℕ)) → length fs ≡ length (codes_of p) → true ≡ all (D.is_in_range n) (elements_by fs (codes_of p))
-  unfolding Fit codes_of
-  fit_none e = subst (λ (p : Places). Fit n (codes_of p) true) (sym e) (fit_nil n)
-
   pub fit_1 : (x : ℕ) (b : Bool) → p ≡ One x → ((f : List ℕ) → b ≡ D.is_in_range n (element_by f x)) → (fs : List (List ℕ)) → length fs ≡ length (codes_of p) → b ≡ all (D.is_in_range n) (elements_by fs (codes_of p))
   unfolding Fit codes_of
   fit_1 x b e h = subst (λ (p : Places). Fit n (codes_of p) b) (sym e) (fit_last n x b h)
@@ -430,7 +390,7 @@ is_free n ls F x name a b = T_false (D.is_taken ls x name) (λ t.
     ⊎_elim (λ q. none_some (sym (ap (D.name_of ls) q ∙ a) ∙ name_found ls l F.one m)) (λ q. none_some (sym (ap (D.element_named ls) q ∙ b) ∙ element_found ls l F.one m)) e)
 
 module _ (site : List ℕ) (n : ℕ) (w : List ℕ) (k : ℕ) (name old new : List ℕ) where
-  pub label_by_name : k ≡ 10000000 → LabelAdded site n (element_by w k) name old new 18
+  pub label_by_name : k ≡ 10000000 → LabelAdded site n (element_by w k) name old new (Err BadLabel)
   unfolding LabelAdded LabelAdds D.element_of D.is_in_range
   label_by_name e ls at L = subst (λ (x : D.Element). D.add_label (site_draft n ls at x name) at x name ≡ refused 18 at) (sym (by_name w k e)) (by_option (D.element_named ls w) refl)
     where
@@ -442,7 +402,7 @@ module _ (site : List ℕ) (n : ℕ) (w : List ℕ) (k : ℕ) (name old new : Li
     number_is : (P : D.Element → Type 0) → P (D.numbered k) → P (element_by w k)
     number_is P p = subst P (sym (by_number w k e)) p
 
-    pub label_wide : n ≤ k → LabelAdded site n (element_by w k) name old new 9
+    pub label_wide : n ≤ k → LabelAdded site n (element_by w k) name old new (Err OutOfRange)
     unfolding LabelAdded LabelAdds D.is_in_range
     label_wide h ls at L = number_is (λ x. D.add_label (site_draft n ls at x name) at x name ≡ refused 9 at) (label_9 n ls at (D.numbered k) name (le-ltb k n h))
 
@@ -451,7 +411,7 @@ module _ (site : List ℕ) (n : ℕ) (w : List ℕ) (k : ℕ) (name old new : Li
       unfolding D.element_of D.is_in_range
       taken ls at t = number_is (λ x. D.add_label (site_draft n ls at x name) at x name ≡ refused 18 at) (label_taken n ls at (D.numbered k) name (lt-ltb k n h) k refl t)
 
-      pub label_again : (get_or old (2 * k + 1) 0 ≡ 0 → ⊥) → LabelAdded site n (element_by w k) name old new 18
+      pub label_again : (get_or old (2 * k + 1) 0 ≡ 0 → ⊥) → LabelAdded site n (element_by w k) name old new (Err BadLabel)
       unfolding LabelAdded LabelAdds
       label_again z ls at L =
           let (v, q) = some_span site (get_or old (2 * k) 0) (get_or old (2 * k + 1) 0) z in
@@ -461,7 +421,7 @@ module _ (site : List ℕ) (n : ℕ) (w : List ℕ) (k : ℕ) (name old new : Li
           some_span : (s : List ℕ) (a e : ℕ) → (e ≡ 0 → ⊥) → (w : List ℕ) × (spanned s a e ≡ some w)
           some_span s a e k = (slice a e s, is_span s a e (slice a e s) (omega (arith, k)) refl)
 
-      pub label_used : ((ls : List D.Label) → LabelsAre site old n ls → meant n (D.element_named ls name) < n) → LabelAdded site n (element_by w k) name old new 18
+      pub label_used : ((ls : List D.Label) → LabelsAre site old n ls → meant n (D.element_named ls name) < n) → LabelAdded site n (element_by w k) name old new (Err BadLabel)
       unfolding LabelAdded LabelAdds meant option
       label_used u ls at L = by_option (D.element_named ls name) refl (u ls L)
         where
@@ -525,7 +485,7 @@ module _ (site words : List ℕ) (n : ℕ) (ls : List D.Label) (L : LabelsAre si
 
 pub label_new : (site : List ℕ) (n : ℕ) (w : List ℕ) (x a e : ℕ) (old : List ℕ) → (x ≡ 10000000 → ⊥) → x < n → n ≤ 64 → e ≤ length site → is_relation_name (slice a e site) ≡ true → get_or old (2 * x + 1) 0 ≡ 0
     → ((ls : List D.Label) → LabelsAre site old n ls → n ≤ meant n (D.element_named ls (slice a e site)))
-    → LabelAdded site n (element_by w x) (slice a e site) old (set (set old (2 * x) a) (2 * x + 1) e) 0
+    → LabelAdded site n (element_by w x) (slice a e site) old (set (set old (2 * x) a) (2 * x + 1) e) (Ok tt)
 unfolding LabelAdded LabelAdds D.element_of D.is_in_range meant option spanned
 label_new site n w x a e old d h few in-site formed k u ls at L =
     let free = by_option (D.element_named ls (slice a e site)) refl (u ls L) in (
@@ -569,8 +529,8 @@ module _ (site words : List ℕ) (n : ℕ) (ls : List D.Label) (L : LabelsAre si
       span y (yes l) = sym (ap₂ (spanned site) (before_hints (2 * y) (omega arith)) (beside_hints y))
       span y (no l) = no_span site (get_or words (2 * y) 0) (get_or hinted (2 * y) 0) (get_or words (2 * y + 1) 0) (L.past y (omega arith)) ∙ ap (spanned site (get_or hinted (2 * y) 0)) (sym (beside_hints y))
 
-pub added_hinted : (site : List ℕ) (n : ℕ) (e : D.Element) (name old mid new : List ℕ) (x : ℕ) → LabelAdded site n e name old mid 0
-    → ((p : ℕ) × (p < 128) × (new ≡ set mid (128 + 2 * p) x)) → LabelAdded site n e name old new 0
+pub added_hinted : (site : List ℕ) (n : ℕ) (e : D.Element) (name old mid new : List ℕ) (x : ℕ) → LabelAdded site n e name old mid (Ok tt)
+    → ((p : ℕ) × (p < 128) × (new ≡ set mid (128 + 2 * p) x)) → LabelAdded site n e name old new (Ok tt)
 unfolding LabelAdded LabelAdds
 added_hinted site n e name old mid new x A (p, l, q) ls at L =
     let (k, r, M) = A ls at L in

@@ -1,4 +1,6 @@
 -- Rows of elements, one place at a time and for any number of places; the powers of at most 64 elements.
+use Rattle.std.specs.Prelude.{Some, None}
+use Rattle.std.specs.Prelude as P
 use Prim.Native.Nat.{ℕ, suc, ◌+◌, ◌*◌, ◌^◌, ◌≤◌, ◌<◌}
 use mathlib.Core.Path.{◌≡◌, refl, sym, ap₂, subst, ◌∙◌}
 use mathlib.Core.Bool.{true, ◌&&◌, and-true, and-false, and_assoc}
@@ -15,9 +17,7 @@ use Rattle.laws.specs.Booleans.{T_of}
 use Rattle.laws.specs.Rows as R
 use Rattle.read_line.specs.Entries.{codes_of}
 use Rattle.read_line.specs.declared.Places.{Places}
-use Rattle.read_line.specs.declared.Places.TheVariants.{Unread, One, Two, Three}
-use Rattle.read_text.specs.declared.Found.{Found}
-use Rattle.read_text.specs.declared.Found.TheVariants.{At, Nowhere}
+use Rattle.read_line.specs.declared.Places.TheVariants.{One, Two, Three}
 use Rattle.read_tuples.specs.Marks.{are_below, InRow, RowBelow}
 
 -- ---- rows of elements
@@ -52,22 +52,22 @@ unfolding are_below all
 below_snoc n [] x = and-true (ltb x n)
 below_snoc n (y ∷ xs) x = rw (below_snoc n xs x) (sym (and_assoc (ltb y n) (are_below n xs) (ltb x n)))
 
-module _ (n : ℕ) (f : Found) (x : ℕ) (xs : List ℕ) (w : InRow n xs f) where
-  pub more_outside : f ≡ Nowhere → InRow n (xs ++ (x ∷ [])) Nowhere
+module _ (n : ℕ) (f : P.Option ℕ) (x : ℕ) (xs : List ℕ) (w : InRow n xs f) where
+  pub more_outside : f ≡ None → InRow n (xs ++ (x ∷ [])) None
   unfolding InRow
-  more_outside e = below_snoc n xs x ∙ rw (subst (λ (f : Found). InRow n xs f) e w)
+  more_outside e = below_snoc n xs x ∙ rw (subst (λ (f : P.Option ℕ). InRow n xs f) e w)
 
-  pub more_above : n ≤ x → InRow n (xs ++ (x ∷ [])) Nowhere
+  pub more_above : n ≤ x → InRow n (xs ++ (x ∷ [])) None
   unfolding InRow
   more_above h = below_snoc n xs x ∙ rw (le-ltb x n h) (and-false (are_below n xs))
 
-  pub more_inside : (row : ℕ) → f ≡ At row → x < n → InRow n (xs ++ (x ∷ [])) (At (row * n + x))
+  pub more_inside : (row : ℕ) → f ≡ Some row → x < n → InRow n (xs ++ (x ∷ [])) (Some (row * n + x))
   unfolding InRow
   more_inside row e h =
-      let v = subst (λ (f : Found). InRow n xs f) e w in
+      let v = subst (λ (f : P.Option ℕ). InRow n xs f) e w in
       (below_snoc n xs x ∙ rw (v.0, lt-ltb x n h), rw v.1 (row_snoc n xs x))
 
-pub row_none : (n : ℕ) → InRow n [] (At 0)
+pub row_none : (n : ℕ) → InRow n [] (Some 0)
 unfolding InRow are_below all row_of
 row_none n = (refl, refl)
 
@@ -76,46 +76,39 @@ row_none n = (refl, refl)
 pub power_le : (n k : ℕ) → n ≤ 64 → k ≤ 3 → n ^ k ≤ 262144
 power_le n k h l = le_trans (pow-le-pow_left h k) (pow-le-pow_right {n = 64} (omega arith) l)
 
-pub power_next : (n i r : ℕ) → r ≡ n ^ i → r * n ≡ n ^ (i + 1)
-power_next n i r e = let z : i + 1 ≡ suc i = omega arith in rw (z, pow-suc n i, e)
-
-pub row_power : (n : ℕ) (xs : List ℕ) (b : ℕ) (f : Found) → f ≡ At b → InRow n xs f → b < n ^ length xs
+pub row_power : (n : ℕ) (xs : List ℕ) (b : ℕ) (f : P.Option ℕ) → f ≡ Some b → InRow n xs f → b < n ^ length xs
 unfolding InRow
-row_power n xs b f e w = let v = subst (λ (f : Found). InRow n xs f) e w in rw v.1 (row_lt n xs v.0)
+row_power n xs b f e w = let v = subst (λ (f : P.Option ℕ). InRow n xs f) e w in rw v.1 (row_lt n xs v.0)
 
-pub row_small : (n : ℕ) (xs : List ℕ) (f : Found) → InRow n xs f → n ≤ 64 → length xs ≤ 2 → RowBelow 4096 f
+pub row_small : (n : ℕ) (xs : List ℕ) (f : P.Option ℕ) → InRow n xs f → n ≤ 64 → length xs ≤ 2 → RowBelow 4096 f
 unfolding RowBelow
-row_small n xs Nowhere w h l = tt
-row_small n xs (At b) w h l =
+row_small n xs None w h l = tt
+row_small n xs (Some b) w h l =
     let e : n ^ length xs ≤ 4096 = le_trans (pow-le-pow_left h (length xs)) (pow-le-pow_right {n = 64} (omega arith) l) in
-    omega (arith, row_power n xs b (At b) refl w)
+    omega (arith, row_power n xs b (Some b) refl w)
 
-pub small_row : (k b : ℕ) (f : Found) → f ≡ At b → RowBelow k f → b < k
+pub small_row : (k b : ℕ) (f : P.Option ℕ) → f ≡ Some b → RowBelow k f → b < k
 unfolding RowBelow
-small_row k b f e w = subst (λ (f : Found). RowBelow k f) e w
+small_row k b f e w = subst (λ (f : P.Option ℕ). RowBelow k f) e w
 
 pub small_times : (b n : ℕ) → b < 4096 → n ≤ 64 → b * n ≤ 262144
 small_times b n h k = mul-le-mul {n₂ = 4096} (omega arith) k
 
-pub no_row : RowBelow 4096 (At 0)
+pub no_row : RowBelow 4096 (Some 0)
 unfolding RowBelow
 no_row = omega arith
 
 -- ---- the elements of a line
 
 module _ (n : ℕ) (p : Places) where
-  pub places_none : p ≡ Unread → InRow n (codes_of p) (At 0)
-  unfolding codes_of
-  places_none e = rw e (row_none n)
-
-  pub places_1 : (x : ℕ) (f : Found) → p ≡ One x → InRow n (x ∷ []) f → InRow n (codes_of p) f
+  pub places_1 : (x : ℕ) (f : P.Option ℕ) → p ≡ One x → InRow n (x ∷ []) f → InRow n (codes_of p) f
   unfolding codes_of
   places_1 x f e w = rw e w
 
-  pub places_2 : (x y : ℕ) (f : Found) → p ≡ Two x y → InRow n (x ∷ y ∷ []) f → InRow n (codes_of p) f
+  pub places_2 : (x y : ℕ) (f : P.Option ℕ) → p ≡ Two x y → InRow n (x ∷ y ∷ []) f → InRow n (codes_of p) f
   unfolding codes_of
   places_2 x y f e w = rw e w
 
-  pub places_3 : (x y z : ℕ) (f : Found) → p ≡ Three x y z → InRow n (x ∷ y ∷ z ∷ []) f → InRow n (codes_of p) f
+  pub places_3 : (x y z : ℕ) (f : P.Option ℕ) → p ≡ Three x y z → InRow n (x ∷ y ∷ z ∷ []) f → InRow n (codes_of p) f
   unfolding codes_of
   places_3 x y z f e w = rw e w

@@ -1,12 +1,14 @@
 -- The labels of a site's elements as numbers: two for each of 64 elements, the span of its label in the site's text. Of the 256 after
 -- them every second one is a hint, some element or 0, of which nothing is promised; the others are 0, so that nobody has a label there.
-use Rattle.std.specs.Prelude.{ℕ, zero, suc, ◌+◌, ◌*◌, ◌≤◌, ◌<◌, ◌≡◌, Bool, not, List, [], ◌∷◌, ◌++◌, map, eqb, length, get_or}
+use Rattle.std.specs.Prelude.{ℕ, zero, suc, ◌+◌, ◌*◌, ◌≤◌, ◌<◌, ◌≡◌, Bool, not, List, [], ◌∷◌, ◌++◌, map, eqb, length, get_or, Result, Ok, Err}
 use Rattle.std.proofs.Math.Option.{Option, none, some}
 use Rattle.std.proofs.Math.Seq.{slice}
 use Rattle.definitions.specs.Lists.{option}
 use Rattle.definitions.specs.Refusal.{refused, accepted}
 use Rattle.definitions.specs.Sheet.Sheets.{Element, Label, name_of, element_of, add_label}
 use Rattle.laws.specs.Labels.{LabelsFit}
+use Rattle.refusal.specs.declared.Cause.{Cause}
+use Rattle.refusal.specs.Numbers.{number_of}
 
 -- the name at a span, none where that ends at 0: a name is never empty
 unfoldable pub spanned : List ℕ → ℕ → ℕ → Option (List ℕ)
@@ -37,12 +39,12 @@ values n ls es = map (λ e. meant n (element_of ls e)) es
 unfoldable pub is_number : ℕ → Bool
 is_number k = not (eqb k 10000000)
 
--- what adding a label gives, by the answer's number
-unfoldable pub LabelAdds : List ℕ → ℕ → Element → List ℕ → List Label → ℕ → List ℕ → ℕ → Type 0
-LabelAdds site n e name ls at new zero =
+-- what adding a label gives, by the answer
+unfoldable pub LabelAdds : List ℕ → ℕ → Element → List ℕ → List Label → ℕ → List ℕ → Result (Unit {0}) Cause → Type 0
+LabelAdds site n e name ls at new (Ok u) =
     (l : Label) × (add_label (record { sized = some n; labels = ls; members = []; facts = [] }) at e name ≡ accepted (record { sized = some n; labels = ls ++ (l ∷ []); members = []; facts = [] })) × LabelsAre site new n (ls ++ (l ∷ []))
-LabelAdds site n e name ls at new (suc k) = add_label (record { sized = some n; labels = ls; members = []; facts = [] }) at e name ≡ refused (suc k) at
+LabelAdds site n e name ls at new (Err k) = add_label (record { sized = some n; labels = ls; members = []; facts = [] }) at e name ≡ refused (number_of k) at
 
 -- the same for any labels so far that the words say
-unfoldable pub LabelAdded : List ℕ → ℕ → Element → List ℕ → List ℕ → List ℕ → ℕ → Type 0
+unfoldable pub LabelAdded : List ℕ → ℕ → Element → List ℕ → List ℕ → List ℕ → Result (Unit {0}) Cause → Type 0
 LabelAdded site n e name old new r = (ls : List Label) → (at : ℕ) → LabelsAre site old n ls → LabelAdds site n e name ls at new r

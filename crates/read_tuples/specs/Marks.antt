@@ -1,31 +1,30 @@
 -- Tuples as bits: each relation from a new word on, a tuple's bit at its row; and what adding a tuple of the text gives.
-use Rattle.std.specs.Prelude.{ℕ, zero, suc, ◌+◌, ◌-◌, ◌*◌, ◌^◌, ◌≤◌, ◌<◌, ◌≡◌, Bool, true, false, List, [], ◌∷◌, ◌++◌, eqb, ltb, length, get_or}
+use Rattle.std.specs.Prelude.{ℕ, zero, suc, ◌+◌, ◌-◌, ◌*◌, ◌^◌, ◌≤◌, ◌<◌, ◌≡◌, Bool, true, false, List, [], ◌∷◌, ◌++◌, eqb, ltb, length, get_or, Some, None, Result, Ok, Err}
+use Rattle.std.specs.Prelude as P
 use Rattle.definitions.specs.Lists.{all, any}
 use Rattle.definitions.specs.Refusal.{refused, accepted, ◌>>=◌, refuse_if}
 use Rattle.definitions.specs.Sheet.Relations.{Tuple, is_among}
 use Rattle.definitions.specs.Problem.Atoms.{row_of, words_for}
 use Rattle.definitions.specs.Sheet.Sheets.{Element, Label, add_tuple}
 use Rattle.bits.specs.Table.{bit}
-use Rattle.read_text.specs.declared.Found.{Found}
-use Rattle.read_text.specs.declared.Found.TheVariants.{At, Nowhere}
 use Rattle.read_names.specs.declared.Signature.{Signature}
 use Rattle.read_names.specs.Signatures.{relations_from, with_arrays}
-use Rattle.read_tuples.specs.declared.Mark.{Mark}
-use Rattle.read_tuples.specs.declared.Mark.TheVariants.{Bit, Fault}
+use Rattle.refusal.specs.declared.Cause.{Cause}
+use Rattle.refusal.specs.Numbers.{number_of}
 
 -- all are elements of n
 unfoldable pub are_below : ℕ → List ℕ → Bool
 are_below n xs = all (λ x. ltb x n) xs
 
 -- the row of elements of n, or not all are
-unfoldable pub InRow : ℕ → List ℕ → Found → Type 0
-InRow n xs (At b) = (are_below n xs ≡ true) × (b ≡ row_of n xs)
-InRow n xs Nowhere = are_below n xs ≡ false
+unfoldable pub InRow : ℕ → List ℕ → P.Option ℕ → Type 0
+InRow n xs (Some b) = (are_below n xs ≡ true) × (b ≡ row_of n xs)
+InRow n xs None = are_below n xs ≡ false
 
 -- a row is small
-unfoldable pub RowBelow : ℕ → Found → Type 0
-RowBelow k (At b) = b < k
-RowBelow k Nowhere = Unit {0}
+unfoldable pub RowBelow : ℕ → P.Option ℕ → Type 0
+RowBelow k (Some b) = b < k
+RowBelow k None = Unit {0}
 
 -- the first word of the relation m places after lo
 unfoldable pub first_word : Signature → ℕ → ℕ → ℕ → ℕ
@@ -69,16 +68,16 @@ pub record Stands (q : List ℕ) (g : Signature) (lo m n : ℕ) (ls : List Label
   pub adds : (ts : List Tuple) → (at : ℕ) → add_tuple (relations_from q g lo m) (5 + lo) n ls ts at name es ≡ (refuse_if (is_among tuple ts) 10 at >>= λ _. accepted (ts ++ (tuple ∷ [])))
 
 -- where a tuple of the text stands, or that it is refused
-unfoldable pub Spotted : List ℕ → Signature → ℕ → ℕ → ℕ → List Label → List ℕ → List Element → Mark → Type 0
-Spotted q g lo m n ls name es (Bit b) = Stands q g lo m n ls name es b
-Spotted q g lo m n ls name es (Fault k) = (1 ≤ k) × ((ts : List Tuple) → (at : ℕ) → add_tuple (relations_from q g lo m) (5 + lo) n ls ts at name es ≡ refused k at)
+unfoldable pub Spotted : List ℕ → Signature → ℕ → ℕ → ℕ → List Label → List ℕ → List Element → Result ℕ Cause → Type 0
+Spotted q g lo m n ls name es (Ok b) = Stands q g lo m n ls name es b
+Spotted q g lo m n ls name es (Err k) = (ts : List Tuple) → (at : ℕ) → add_tuple (relations_from q g lo m) (5 + lo) n ls ts at name es ≡ refused (number_of k) at
 
--- what adding a tuple gives, by the answer's number
-unfoldable pub Adds : List ℕ → Signature → ℕ → ℕ → ℕ → List Label → List ℕ → List Element → List Tuple → ℕ → List ℕ → ℕ → Type 0
-Adds q g lo m n ls name es ts at new zero =
+-- what adding a tuple gives, by the answer
+unfoldable pub Adds : List ℕ → Signature → ℕ → ℕ → ℕ → List Label → List ℕ → List Element → List Tuple → ℕ → List ℕ → Result (Unit {0}) Cause → Type 0
+Adds q g lo m n ls name es ts at new (Ok u) =
     (t : Tuple) × (add_tuple (relations_from q g lo m) (5 + lo) n ls ts at name es ≡ accepted (ts ++ (t ∷ []))) × AllValid g n lo m (ts ++ (t ∷ [])) × (bit new ≡ marks (bit_of g n lo) (ts ++ (t ∷ [])))
-Adds q g lo m n ls name es ts at new (suc k) = add_tuple (relations_from q g lo m) (5 + lo) n ls ts at name es ≡ refused (suc k) at
+Adds q g lo m n ls name es ts at new (Err k) = add_tuple (relations_from q g lo m) (5 + lo) n ls ts at name es ≡ refused (number_of k) at
 
 -- the same for any tuples so far that the table holds
-unfoldable pub Added : List ℕ → Signature → ℕ → ℕ → ℕ → List Label → List ℕ → List Element → List ℕ → List ℕ → ℕ → Type 0
+unfoldable pub Added : List ℕ → Signature → ℕ → ℕ → ℕ → List Label → List ℕ → List Element → List ℕ → List ℕ → Result (Unit {0}) Cause → Type 0
 Added q g lo m n ls name es old new r = (ts : List Tuple) → (at : ℕ) → AllValid g n lo m ts → bit old ≡ marks (bit_of g n lo) ts → Adds q g lo m n ls name es ts at new r

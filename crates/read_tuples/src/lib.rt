@@ -1,5 +1,5 @@
 // Tuples of a `fact` or `pick` line as bits: each relation from a new word on, a tuple's bit at its row; the labels of elements as
-// spans of the site's text; the members of types as bits, a word a type; refusals 7, 19, 9, 18 and 10.
+// spans of the site's text; the members of types as bits, a word a type; and why a line is refused (7, 19, 9, 18 and 10).
 #![tactic(auto)]
 
 ghost use Rattle.std.specs.Prelude.{◌≡◌, List, ◌∷◌, [], ◌++◌, true, ℕ, ◌+◌, ◌-◌, ◌*◌, ◌^◌, ◌≤◌, ◌<◌, length, get_or, set};
@@ -15,14 +15,7 @@ ghost use Rattle.read_tuples.specs.Marks.{InRow, RowBelow, first_word, Arrays, R
 
 use read_line::Places;
 use read_names::Signature;
-use read_text::Found;
-
-// The bit of a tuple, or the number of its refusal.
-#[derive(Clone, Copy)]
-enum Mark {
-    Bit(usize),
-    Fault(u32),
-}
+use refusal::Cause;
 
 // A `fact` or `pick` line over n elements: a tuple of the `count` relations from `first` on, named from `name` up to `tab`; its element
 // fields, of these numbers, go from tab + 1 up to `end`.
@@ -55,18 +48,10 @@ fn slot(s: &[u8], a: usize, e: usize) -> usize
 {
     let count = read_text::span_length(s, a, e);
     let mut h: usize = 0;
-    let mut i: usize = 0;
-    while i < count {
-        h = (h * 33 + wide(s[a + i])) % 1048576;
-        i += 1;
+    for i in 0..count {
+        h = (h * 33 + usize::from(s[a + i])) % 1048576;
     }
     h * 40503 / 512 % 128
-}
-
-fn wide(b: u8) -> usize
-    ensures { result < 256 }
-{
-    b as usize
 }
 
 // Whether x is an element whose label is the name from a to e of s.
@@ -90,13 +75,11 @@ fn element_named(s: &[u8], a: usize, e: usize, n: usize, site: &[u8], labels: &[
     ensures { (ls : List Label) → LabelsAre site.now labels.now n ls → result ≡ meant n (element_named ls (slice a e s.now)) }
 {
     let first = slot(s, a, e);
-    let mut k: usize = 0;
-    while k < 8 {
+    for k in 0..8 {
         let x = labels[128 + 2 * ((first + k) % 128)];
         if has_name(s, a, e, n, site, labels, x) {
             return x;
         }
-        k += 1;
     }
     scan(s, a, e, n, site, labels)
 }
@@ -106,12 +89,10 @@ fn free_slot(labels: &[usize], first: usize) -> usize
     requires { (length labels.now ≡ 384) × (first < 128) }
     ensures { result < 128 }
 {
-    let mut k: usize = 0;
-    while k < 7 {
+    for k in 0..7 {
         if labels[128 + 2 * ((first + k) % 128)] == 0 {
             return (first + k) % 128;
         }
-        k += 1;
     }
     (first + 7) % 128
 }
@@ -146,8 +127,7 @@ fn scan(s: &[u8], a: usize, e: usize, n: usize, site: &[u8], labels: &[usize]) -
     if wanted == 0 {
         return n;
     }
-    let mut x = 0;
-    while x < n {
+    for x in 0..n {
         let from = labels[2 * x];
         let to = labels[2 * x + 1];
         if to - from == wanted {
@@ -155,7 +135,6 @@ fn scan(s: &[u8], a: usize, e: usize, n: usize, site: &[u8], labels: &[usize]) -
                 return x;
             }
         }
-        x += 1;
     }
     n
 }
@@ -185,7 +164,6 @@ fn values_of(
     ensures { (ls : List Label) → LabelsAre site.now labels.now n ls → codes_of result ≡ values n ls (list_of s.now a e p) }
 {
     match p {
-        Places::Unread => Places::Unread,
         Places::One(x) => {
             let u = value(s, a, e, x, n, site, labels);
             Places::One(u)
@@ -212,22 +190,10 @@ fn all_numbers(p: Places) -> bool
     ensures { result ≡ all is_number (codes_of p) }
 {
     match p {
-        Places::Unread => true,
         Places::One(x) => x != read_line::NAMED,
-        Places::Two(x, y) => {
-            if x == read_line::NAMED {
-                return false;
-            }
-            y != read_line::NAMED
-        }
+        Places::Two(x, y) => x != read_line::NAMED && y != read_line::NAMED,
         Places::Three(x, y, z) => {
-            if x == read_line::NAMED {
-                return false;
-            }
-            if y == read_line::NAMED {
-                return false;
-            }
-            z != read_line::NAMED
+            x != read_line::NAMED && y != read_line::NAMED && z != read_line::NAMED
         }
     }
 }
@@ -255,10 +221,7 @@ fn elements(
 fn fits(k: u32, n: usize) -> bool
     ensures { (f : List ℕ) → result ≡ is_in_range n (element_by f k) }
 {
-    if k == read_line::NAMED {
-        return true;
-    }
-    (k as usize) < n
+    k == read_line::NAMED || (k as usize) < n
 }
 
 // All numbers among the elements are below n.
@@ -266,22 +229,9 @@ fn all_fit(p: Places, n: usize) -> bool
     ensures { (fs : List (List ℕ)) → length fs ≡ length (codes_of p) → result ≡ all (is_in_range n) (elements_by fs (codes_of p)) }
 {
     match p {
-        Places::Unread => true,
         Places::One(x) => fits(x, n),
-        Places::Two(x, y) => {
-            if fits(x, n) {
-                return fits(y, n);
-            }
-            false
-        }
-        Places::Three(x, y, z) => {
-            if fits(x, n) {
-                if fits(y, n) {
-                    return fits(z, n);
-                }
-            }
-            false
-        }
+        Places::Two(x, y) => fits(x, n) && fits(y, n),
+        Places::Three(x, y, z) => fits(x, n) && fits(y, n) && fits(z, n),
     }
 }
 
@@ -290,7 +240,6 @@ fn count(p: Places) -> usize
     ensures { result ≡ length (codes_of p) }
 {
     match p {
-        Places::Unread => 0,
         Places::One(_) => 1,
         Places::Two(_, _) => 2,
         Places::Three(_, _, _) => 3,
@@ -298,53 +247,31 @@ fn count(p: Places) -> usize
 }
 
 // The row of some places and one more, where all are below n.
-fn one_more(f: Found, x: usize, n: usize) -> Found
+fn one_more(f: Option<usize>, x: usize, n: usize) -> Option<usize>
     requires { (n ≤ 64) × RowBelow 4096 f }
     ensures { (xs : List ℕ) → InRow n xs f → InRow n (xs ++ (x ∷ [])) result }
 {
-    match f {
-        Found::Nowhere => Found::Nowhere,
-        Found::At(row) => {
-            if x < n {
-                return Found::At(row * n + x);
-            }
-            Found::Nowhere
-        }
-    }
+    let row = f?;
+    if x < n { Some(row * n + x) } else { None }
 }
 
 // The row of the elements, where all are below n.
-fn row(p: Places, n: usize) -> Found
+fn row(p: Places, n: usize) -> Option<usize>
     requires { n ≤ 64 }
     ensures { InRow n (codes_of p) result }
 {
     match p {
-        Places::Unread => Found::At(0),
-        Places::One(x) => one_more(Found::At(0), x as usize, n),
+        Places::One(x) => one_more(Some(0), x as usize, n),
         Places::Two(x, y) => {
-            let a = one_more(Found::At(0), x as usize, n);
+            let a = one_more(Some(0), x as usize, n);
             one_more(a, y as usize, n)
         }
         Places::Three(x, y, z) => {
-            let a = one_more(Found::At(0), x as usize, n);
+            let a = one_more(Some(0), x as usize, n);
             let b = one_more(a, y as usize, n);
             one_more(b, z as usize, n)
         }
     }
-}
-
-// n to the power k.
-fn power(n: usize, k: usize) -> usize
-    requires { (n ≤ 64) × (k ≤ 3) }
-    ensures { result ≡ n ^ k }
-{
-    let mut r: usize = 1;
-    let mut i = 0;
-    while i < k {
-        r *= n;
-        i += 1;
-    }
-    r
 }
 
 // The first word of relation i, where relation lo has the first word of all, by the array of the arities.
@@ -352,12 +279,9 @@ fn word_of(arity: &[usize], n: usize, lo: usize, i: usize) -> usize
     requires { (n ≤ 64) × (lo ≤ i) × (i ≤ 12) × (12 ≤ length arity.now) × ((j : ℕ) → j < i → get_or arity.now j 0 ≤ 3) }
     ensures { ((g : Signature) → (from to : List ℕ) → result ≡ first_word (with_arrays g from to arity.now) n lo (i - lo)) × (result ≤ 4096 * (i - lo)) }
 {
-    let mut j = lo;
     let mut sum: usize = 0;
-    while j < i {
-        let p = power(n, arity[j]);
-        sum += (p + 63) / 64;
-        j += 1;
+    for k in &arity[lo..i] {
+        sum += n.pow(*k as u32).div_ceil(64);
     }
     sum
 }
@@ -367,8 +291,7 @@ pub fn first_word(g: Signature, n: usize, lo: usize, i: usize) -> usize
     requires { (n ≤ 64) × (lo ≤ i) × (i ≤ 12) × ((j : ℕ) → j < i → get_or g.arity j 0 ≤ 3) }
     ensures { (result ≡ first_word g n lo (i - lo)) × (result ≤ 4096 * (i - lo)) }
 {
-    let arity = g.arity;
-    word_of(&arity, n, lo, i)
+    word_of(&g.arity, n, lo, i)
 }
 
 // The bit of a line's tuple. The arrays of a signature come as slices, so that no call copies it.
@@ -381,7 +304,7 @@ fn spot(
     site: &[u8],
     labels: &[usize],
     line: TupleLine,
-) -> Mark
+) -> Result<usize, Cause>
     requires { Arrays line.first line.count from.now to.now arity.now × (line.n ≤ 64) × Fielded s.now (line.tab + 1) line.end line.places
         × ((ls : List Label) × LabelsAre site.now labels.now line.n ls) }
     ensures { (ls : List Label) → LabelsAre site.now labels.now line.n ls → (g : Signature)
@@ -395,29 +318,18 @@ fn spot(
     let a = line.name;
     let t = line.tab;
     let k = count(p);
-    let f = read_names::lookup(q, from, to, arity, lo, m, s, a, t, false, k);
-    match f {
-        Found::Nowhere => Mark::Fault(7),
-        Found::At(i) => {
-            let v = elements(s, t + 1, line.end, p, n, site, labels);
-            let w = row(v, n);
-            match w {
-                Found::Nowhere => {
-                    if all_fit(p, n) {
-                        return Mark::Fault(18);
-                    }
-                    Mark::Fault(9)
-                }
-                Found::At(b) => {
-                    let first = word_of(arity, n, lo, i);
-                    Mark::Bit(first * 64 + b)
-                }
-            }
-        }
+    let Some(i) = read_names::lookup(q, from, to, arity, lo, m, s, a, t, Some(k)) else {
+        return Err(Cause::Unknown);
+    };
+    let v = elements(s, t + 1, line.end, p, n, site, labels);
+    match row(v, n) {
+        Some(b) => Ok(word_of(arity, n, lo, i) * 64 + b),
+        None if all_fit(p, n) => Err(Cause::BadLabel),
+        None => Err(Cause::OutOfRange),
     }
 }
 
-// Adds that tuple to the table: 0, or the number of its refusal.
+// Adds that tuple to the table, or says why not.
 pub fn add(
     q: &[u8],
     from: &[usize],
@@ -428,7 +340,7 @@ pub fn add(
     labels: &[usize],
     table: &mut [u64],
     line: TupleLine,
-) -> u32
+) -> Result<(), Cause>
     requires arrays { Arrays line.first line.count from.now to.now arity.now × (line.n ≤ 64)
         × Roomy from.now to.now arity.now line.first line.count line.n (length table.old) }
     requires fielded { Fielded s.now (line.tab + 1) line.end line.places × ((ls : List Label) × LabelsAre site.now labels.now line.n ls) }
@@ -436,47 +348,50 @@ pub fn add(
         → Added q.now (with_arrays g from.now to.now arity.now) line.first line.count line.n ls
         (slice line.name line.tab s.now) (list_of s.now (line.tab + 1) line.end line.places) table.old table.new result }
 {
-    let place = spot(q, from, to, arity, s, site, labels, line);
-    match place {
-        Mark::Fault(k) => k,
-        Mark::Bit(b) => {
-            if bits::get(table, b) {
-                return 10;
-            }
-            bits::set(table, b);
-            0
-        }
+    let b = spot(q, from, to, arity, s, site, labels, line)?;
+    if bits::get(table, b) {
+        return Err(Cause::Repeated);
     }
+    bits::set(table, b);
+    Ok(())
 }
 
-// Adds a label from the site's text, which begins after the element field from a to t, of number k, and goes up to e: 0, or the number of
-// its refusal. A field that is a name is 18 in any case: its element has a label, or there is none.
-pub fn label(s: &[u8], k: u32, a: usize, t: usize, e: usize, n: usize, labels: &mut [usize]) -> u32
+// Adds a label from the site's text, which begins after the element field from a to t, of number k, and goes up to e, or says why not.
+// A field that is a name is a bad label in any case: its element has one, or there is none.
+pub fn label(
+    s: &[u8],
+    k: u32,
+    a: usize,
+    t: usize,
+    e: usize,
+    n: usize,
+    labels: &mut [usize],
+) -> Result<(), Cause>
     requires n_bound { (n ≤ 64) × ((ls : List Label) × LabelsAre s.now labels.old n ls) }
     requires t_lt_e { (t < e) × (e ≤ length s.now) × (is_relation_name (slice (t + 1) e s.now) ≡ true) }
     ensures { LabelAdded s.now n (element_by (slice a t s.now) k) (slice (t + 1) e s.now) labels.old labels.new result }
 {
     if k == read_line::NAMED {
-        return 18;
+        return Err(Cause::BadLabel);
     }
     let x = k as usize;
     if n <= x {
-        return 9;
+        return Err(Cause::OutOfRange);
     }
     if labels[2 * x + 1] != 0 {
-        return 18;
+        return Err(Cause::BadLabel);
     }
     if element_named(s, t + 1, e, n, s, labels) < n {
-        return 18;
+        return Err(Cause::BadLabel);
     }
     labels[2 * x] = t + 1;
     labels[2 * x + 1] = e;
     let first = slot(s, t + 1, e);
     hint(labels, first, x);
-    0
+    Ok(())
 }
 
-// Adds a member from the site's text, whose types have names that are lent: 0, or the number of its refusal.
+// Adds a member from the site's text, whose types have names that are lent, or says why not.
 pub fn member(
     q: &[u8],
     from: &[usize],
@@ -485,7 +400,7 @@ pub fn member(
     labels: &[usize],
     members: &mut [u64],
     line: MemberLine,
-) -> u32
+) -> Result<(), Cause>
     requires types_bound { (line.types ≤ 8) × (21 ≤ length from.now) × (21 ≤ length to.now) × (line.n ≤ 64) × (length members.old ≡ 8) × (line.tab < line.end) × (line.end ≤ length s.now) }
     requires labels_are { (ls : List Label) × LabelsAre s.now labels.now line.n ls }
     ensures { (ls : List Label) → LabelsAre s.now labels.now line.n ls
@@ -495,22 +410,19 @@ pub fn member(
     let n = line.n;
     let t = line.tab;
     let k = line.element;
-    let f = read_names::type_named(q, from, to, line.types, s, line.name, t);
-    match f {
-        Found::Nowhere => 19,
-        Found::At(j) => {
-            if fits(k, n) {
-                let x = value(s, t + 1, line.end, k, n, s, labels) as usize;
-                if n <= x {
-                    return 18;
-                }
-                if bits::get(members, 64 * j + x) {
-                    return 10;
-                }
-                bits::set(members, 64 * j + x);
-                return 0;
-            }
-            9
-        }
+    let Some(j) = read_names::type_named(q, from, to, line.types, s, line.name, t) else {
+        return Err(Cause::BadType);
+    };
+    if !fits(k, n) {
+        return Err(Cause::OutOfRange);
     }
+    let x = value(s, t + 1, line.end, k, n, s, labels) as usize;
+    if n <= x {
+        return Err(Cause::BadLabel);
+    }
+    if bits::get(members, 64 * j + x) {
+        return Err(Cause::Repeated);
+    }
+    bits::set(members, 64 * j + x);
+    Ok(())
 }

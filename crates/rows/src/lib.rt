@@ -13,10 +13,8 @@ pub fn power(n: usize, k: usize) -> usize
     ensures { result ≡ n ^ k }
 {
     let mut r: usize = 1;
-    let mut i: usize = 0;
-    while i < k {
+    for _i in 0..k {
         r = r * n;
-        i += 1;
     }
     r
 }
@@ -29,9 +27,7 @@ pub fn values_of(n: usize, levels: [usize; 4], width: usize, row: usize) -> [usi
 {
     let mut out = [0usize; 4];
     let mut rest = row;
-    let mut i = width;
-    while 0 < i {
-        i -= 1;
+    for i in (0..width).rev() {
         out[levels[i]] = rest % n;
         rest = rest / n;
     }
@@ -54,9 +50,7 @@ pub fn values_with(
 {
     let mut out = [0usize; 4];
     let mut rest = row;
-    let mut i = width;
-    while 0 < i {
-        i -= 1;
+    for i in (0..width).rev() {
         out[levels[i]] = rest % n;
         rest = rest / n;
     }
@@ -79,12 +73,10 @@ pub fn weights(n: usize, levels: [u8; 4], width: usize) -> [usize; 4]
     ensures { (value_in result ≡ weight_of n (take width levels)) × Most result (65 ^ 4) }
 {
     let mut w = [0usize; 4];
-    let mut i: usize = 0;
-    while i < width {
+    for i in 0..width {
         w = times(w, n);
         let l = levels[i] as usize;
         w[l] += 1;
-        i += 1;
     }
     w
 }
@@ -96,6 +88,7 @@ pub fn locate(table: &[usize], at: usize, stride: usize, count: usize, k: usize)
 {
     let mut low: usize = 0;
     let mut high = count;
+    // no count: each turn halves what is left
     while low + 1 < high {
         let mid = low + (high - low) / 2;
         if k < table[at + stride * mid] {

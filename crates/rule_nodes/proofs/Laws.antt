@@ -10,8 +10,8 @@ use mathlib.Core.Logic.{◌⊎◌, inl, inr}
 use mathlib.Core.List.{List, [], ◌∷◌, ◌++◌, append_assoc, append-nil}
 use lib.ListN.{length, get_or, take, drop, set, length-take, length-set, length-append, drop_of_length-le}
 use lib.Seq.{drop-cons, get_or-take, get_or-set_same, get_or-set_other}
-use lib.Dec.{eqb, ltb}
-use borrow.Author.Tests.{eq-eqb, ne_eqb, lt-ltb, le-ltb}
+use lib.Dec.{eqb}
+use borrow.Author.Tests.{eq-eqb, ne_eqb}
 use Rattle.definitions.specs.Lists.{any, filter, from, below}
 use Rattle.rule_nodes.specs.Postorder.{pad}
 use Rattle.rule_nodes.specs.Pass.{levels_of, listed_of}
@@ -128,13 +128,7 @@ list_again p r q l false h e z k = record {
 pub list_end : (p : ℕ → Bool) (r : Levels) (l : ℕ) → 4 ≤ l → Listed p r l → r ≡ levels_of (filter p (below 4))
 list_end p r l h k = k.is ∙ ap (λ (x : List ℕ). levels_of x) (sym (append-nil k.got) ∙ ap (λ (x : List ℕ). k.got ++ x) (filter_none p l h) ∙ k.rest)
 
--- ---- `is_own`, `node_tag`
-pub own_quant : (k l x y : ℕ) → k < 2 → y ≡ x → eqb l y ≡ (ltb k 2 && eqb l x)
-own_quant k l x y h e = rw (lt-ltb k 2 h, e)
-
-pub own_none : (k l x : ℕ) → 2 ≤ k → false ≡ (ltb k 2 && eqb l x)
-own_none k l x h = rw (le-ltb k 2 h)
-
+-- ---- `node_tag`
 pub tag_forall : (k : ℕ) → k ≡ 0 → ◌≡◌ {A = ℕ} 2 (if eqb k 0 then 2 else 3)
 tag_forall k e = rw e
 

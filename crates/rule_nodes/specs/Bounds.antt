@@ -1,11 +1,11 @@
 -- What keeps the table's indexes in range holds of every part and every row that the pass leaves. Assumes nothing.
-use Prim.Native.Nat.{ℕ, zero, suc, ◌+◌, ◌≤◌, ◌<◌}
+use Prim.Native.Nat.{ℕ, zero, suc, ◌+◌, ◌-◌, ◌≤◌, ◌<◌}
 use Rattle.std.proofs.Common.{not-suc-le-zero, le_of_suc-le-suc, arith, ◌∙◌, ltb-true, ltb-false}
 use Rattle.std.specs.Prelude.{◌≡◌, refl, Bool, get_or, set, replicate, ltb}
 use Rattle.std.proofs.Math.Bool.{true, false}
 use mathlib.Core.List.{List, [], ◌∷◌, ◌++◌}
-use Rattle.std.proofs.Math.ListN.{length, length-append}
-use Rattle.std.proofs.lemmas.List.{length-replicate}
+use Rattle.std.proofs.Math.ListN.{length, length-append, length-take, take, drop}
+use Rattle.std.proofs.lemmas.List.{length-replicate, get_or-take, get_or-drop}
 use Rattle.std.proofs.lemmas.List.Edits.{sets}
 use Rattle.definitions.specs.Problem.Tree.{Tree, Trees, leaf, forall_node, exists_node, and_node, or_node, end, ◌then◌, nodes, nodes_all, parts, parts_from, node_sort, free}
 use Rattle.rule_nodes.specs.declared.Nodes.{Nodes}
@@ -17,6 +17,12 @@ use Rattle.rule_nodes.specs.Pass.{Laid, blank, blank_part, blank_row}
 use Rattle.rule_nodes.specs.Free.{pad_below, free_few, free_below}
 use Rattle.rule_nodes.specs.Laid.{lay, laid, laid_all}
 use Rattle.rule_nodes.specs.Shown.{Grows, laid_grows}
+
+-- ---- an element of a lent part of a list
+pub part_taken : {A : Type 0} (l : List A) (first many i : ℕ) (d : A) → i < length (take (first + many - first) (drop first l))
+    → get_or (take (first + many - first) (drop first l)) i d ≡ get_or l (first + i) d
+part_taken l first many i d h =
+    get_or-take _ (drop first l) i d (omega (arith, length-take (first + many - first) (drop first l))) ∙ get_or-drop first l i d
 
 -- ---- facts of every element
 module _ {A : Type 0} (P : A → Type 0) (d : A) where

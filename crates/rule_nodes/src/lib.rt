@@ -95,8 +95,7 @@ fn also(m: Marks, p: PartRow) -> Marks
 {
     let mut r = m;
     let width = wide(p.width);
-    let mut i = 0;
-    while i < 4 {
+    for i in 0..4 {
         if i == width {
             return r;
         }
@@ -104,7 +103,6 @@ fn also(m: Marks, p: PartRow) -> Marks
         if l < 4 {
             r.at[l] = true;
         }
-        i += 1;
     }
     r
 }
@@ -113,11 +111,7 @@ fn also(m: Marks, p: PartRow) -> Marks
 fn is_own(row: Row, l: usize) -> bool
     ensures { result ≡ is_own row l }
 {
-    if row.kind < 2 {
-        l == wide(row.levels[0])
-    } else {
-        false
-    }
+    row.kind < 2 && l == wide(row.levels[0])
 }
 
 // One level more, if it is marked and not the row's own.
@@ -146,12 +140,8 @@ fn free_levels(m: Marks, row: Row) -> Levels
         at: [0u8; 4],
         width: 0,
     };
-    let mut l = 0;
-    while l < 4 {
-        let own = is_own(row, l);
-        let marked = m.at[l];
-        r = listed(r, l, own, marked);
-        l += 1;
+    for (l, marked) in m.at.iter().enumerate() {
+        r = listed(r, l, is_own(row, l), *marked);
     }
     r
 }
@@ -280,10 +270,8 @@ pub fn tabulate(from: &[u8], len: usize, count: usize) -> Nodes
     let mut rows = [blank_row; 64];
     let mut height = 0;
     let mut placed = 0;
-    let mut i = 0;
-    while i < len {
+    for i in 0..len {
         let row = row_at(from, i);
-        i += 1;
         if row.kind >= 4 {
             stack[height] = leaf_part(row);
             height += 1;
@@ -292,13 +280,11 @@ pub fn tabulate(from: &[u8], len: usize, count: usize) -> Nodes
         let first = placed;
         let base = height - wide(row.many);
         let mut marks = Marks { at: [false; 4] };
-        let mut j = base;
-        while j < height {
+        for j in base..height {
             let p = stack[j];
             parts[placed] = p;
             marks = also(marks, p);
             placed += 1;
-            j += 1;
         }
         let free = free_levels(marks, row);
         let v = wide(row.which);

@@ -1,4 +1,5 @@
 -- Variables in the text: their levels, a literal's list, a quantifier's list; a relation's number. Assumes nothing.
+use Rattle.std.specs.Prelude.{Some, None}
 use Prim.Native.Nat.{ℕ, zero, suc, ◌+◌, ◌-◌, ◌≤◌, ◌<◌}
 use native.Mathlib.Numerals.{add-one}
 use native.Mathlib.Omega.{arith}
@@ -15,8 +16,7 @@ use Rattle.definitions.specs.Sheet.Relations.{Relation, fixed, number_of, built_
 use Rattle.definitions.specs.Sheet.Formula.{Quantified, variables_of, write_each, write_vars, write_typed, write_more, Variables, AllQuantified, a_word, type_number, sort_named, sort_of}
 use Rattle.definitions.specs.Sheet.Parsing.{span}
 use Rattle.laws.specs.Writing.{vars_stop, more_stop, typed_close}
-use Rattle.read_text.specs.Spans.{place_of}
-use Rattle.read_text.specs.declared.Found.TheVariants.{At, Nowhere}
+use Rattle.read_text.specs.Spans.{option_of}
 use Rattle.read_names.specs.Signatures.{Lent, all_of, relations_from, types_in}
 use Rattle.read_names.specs.declared.Signature.{Signature}
 use Rattle.read_names.proofs.Laws.{position_some, all_are, length_relations, length_names}
@@ -73,27 +73,27 @@ length_all q g one =
     let n = g.rels + g.chosen + g.every in
     omega (arith, ap length (all_are q g one), length-append built_in (relations_from q g 0 n), length_relations q g 0 n, five)
 
-number_found : (x : Option ℕ) (k : ℕ) → At k ≡ place_of x → x ≡ some k
+number_found : (x : Option ℕ) (k : ℕ) → Some k ≡ option_of x → x ≡ some k
 number_found none k e = let z : ◌≡◌ {A = ℕ} 0 1 = cc in absurd (omega arith)
 number_found (some j) k e = let z : k ≡ j = cc in ap (λ (n : ℕ). some n) (sym z)
 
-number_lost : (x : Option ℕ) → Nowhere ≡ place_of x → x ≡ none
+number_lost : (x : Option ℕ) → None ≡ option_of x → x ≡ none
 number_lost none e = refl
 number_lost (some j) e = let z : ◌≡◌ {A = ℕ} 0 1 = cc in absurd (omega arith)
 
-number_low : (q : List ℕ) (g : Signature) (w : List ℕ) (k : ℕ) → g.rels + g.chosen + g.every ≤ 13 → g.every ≤ 1 → At k ≡ place_of (number_of (all_of q g) w) → k < 18
+number_low : (q : List ℕ) (g : Signature) (w : List ℕ) (k : ℕ) → g.rels + g.chosen + g.every ≤ 13 → g.every ≤ 1 → Some k ≡ option_of (number_of (all_of q g) w) → k < 18
 unfolding number_of
 number_low q g w k h one e = omega (arith, length_all q g one, (position_some (λ (r : Relation). same r.name w) (all_of q g) k (fixed [] 0) (number_found (number_of (all_of q g) w) k e)).0)
 
 -- ... of any signature whose names and count are lent
-pub lent_low : (q F T w : List ℕ) (m k : ℕ) → m ≤ 13 → ((g : Signature) → Lent g F T m → At k ≡ place_of (number_of (all_of q g) w)) → k < 18
+pub lent_low : (q F T w : List ℕ) (m k : ℕ) → m ≤ 13 → ((g : Signature) → Lent g F T m → Some k ≡ option_of (number_of (all_of q g) w)) → k < 18
 lent_low q F T w m k h e = let g : Signature = record { rels = m; chosen = 0; every = 0; types = 0; from = F; to = T; arity = []; kind = []; firsts = []; seconds = [] } in number_low q g w k (omega arith) (omega arith) (e g (record { from_is = refl; to_is = refl; count = omega arith; one = omega arith }))
 
-pub number_at : (x : Option ℕ) (k : ℕ) → At k ≡ place_of x → k ≡ option x zero (λ j. j)
+pub number_at : (x : Option ℕ) (k : ℕ) → Some k ≡ option_of x → k ≡ option x zero (λ j. j)
 unfolding option
 number_at x k e = rw (number_found x k e)
 
-pub number_none : (x : Option ℕ) → Nowhere ≡ place_of x → 0 ≡ option x zero (λ j. j)
+pub number_none : (x : Option ℕ) → None ≡ option_of x → 0 ≡ option x zero (λ j. j)
 unfolding option
 number_none x e = rw (number_lost x e)
 
@@ -214,15 +214,15 @@ unfolding sort_in
 sort_none types s e p h = rw (eq-eqb e p h)
 
 module _ (types : List (List ℕ)) (s : List ℕ) (e p : ℕ) (h : e ≡ p → ⊥) where
-  pub sort_some : (k : ℕ) → At k ≡ place_of (type_number types (slice (e + 1) p s)) → k + 1 ≡ sort_in types s e p
+  pub sort_some : (k : ℕ) → Some k ≡ option_of (type_number types (slice (e + 1) p s)) → k + 1 ≡ sort_in types s e p
   unfolding sort_in option
   sort_some k w = rw (ne_eqb e p h, number_found (type_number types (slice (e + 1) p s)) k w) (add-one k)
 
-  pub sort_lost : Nowhere ≡ place_of (type_number types (slice (e + 1) p s)) → 0 ≡ sort_in types s e p
+  pub sort_lost : None ≡ option_of (type_number types (slice (e + 1) p s)) → 0 ≡ sort_in types s e p
   unfolding sort_in option
   sort_lost w = rw (ne_eqb e p h, number_lost (type_number types (slice (e + 1) p s)) w)
 
-pub type_low : (q from to name : List ℕ) (k : ℕ) → At k ≡ place_of (type_number (types_in q from to 8) name) → k < 8
+pub type_low : (q from to name : List ℕ) (k : ℕ) → Some k ≡ option_of (type_number (types_in q from to 8) name) → k < 8
 unfolding type_number
 type_low q from to name k w = omega (arith, length_names q from to 13 8, (position_some (λ t. same t name) (types_in q from to 8) k [] (number_found (type_number (types_in q from to 8) name) k w)).0)
 

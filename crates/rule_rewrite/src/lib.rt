@@ -17,7 +17,6 @@ ghost use Rattle.rule_rewrite.specs.Rule.{totality_of, one_totality, Accepted, R
 
 use read_names::Signature;
 use read_rule::{Kind, Scope};
-use read_text::Found;
 use rule_nodes::{Nodes, Row};
 
 // How many rows of a lent table are in use, and how many preorder numbers are taken.
@@ -144,12 +143,10 @@ fn level(s: &[u8], a: usize, e: usize, sc: Scope) -> u8
     requires { sc.n ≤ 4 }
     ensures { result ≡ level_of (names s.now sc) (slice a e s.now) }
 {
-    let mut i = 0;
-    while i < sc.n {
+    for i in 0..sc.n {
         if read_text::same_span(s, a, e, s, sc.from[i], sc.to[i]) {
             return i as u8;
         }
-        i += 1;
     }
     0
 }
@@ -159,10 +156,9 @@ fn number(s: &[u8], from: &[usize], to: &[usize], m: usize, a: usize, e: usize) 
     requires { (m ≤ 13) × (13 ≤ length from.now) × (13 ≤ length to.now) }
     ensures { (g : Signature) → Lent g from.now to.now m → result ≡ option (number_of (all_of s.now g) (slice a e s.now)) zero (λ k. k) }
 {
-    let f = read_names::relation(s, from, to, m, a, e);
-    match f {
-        Found::At(k) => k as u8,
-        Found::Nowhere => 0,
+    match read_names::relation(s, from, to, m, a, e) {
+        Some(k) => k as u8,
+        None => 0,
     }
 }
 
@@ -173,6 +169,7 @@ fn fill(s: &[u8], at: usize, row: Row, sc: Scope) -> Leaf
 {
     let mut i = at;
     let mut full = row;
+    // no count: how many follow is known once the last was read
     while s[i] == 32 {
         let e = read_rule::run(s, i + 2, true);
         let l = level(s, i + 1, e, sc);
@@ -192,10 +189,9 @@ fn sort_at(s: &[u8], at: usize, end: usize, from: &[usize], to: &[usize]) -> u8
     if at == end {
         return 0;
     }
-    let f = read_names::type_named(s, from, to, read_names::TYPES, s, at + 1, end);
-    match f {
-        Found::At(k) => (k + 1) as u8,
-        Found::Nowhere => 0,
+    match read_names::type_named(s, from, to, read_names::TYPES, s, at + 1, end) {
+        Some(k) => (k + 1) as u8,
+        None => 0,
     }
 }
 
@@ -208,6 +204,7 @@ fn bind(s: &[u8], at: usize, from: &[usize], to: &[usize], sc: Scope) -> Bound
     let mut inner = sc;
     let mut sorts = [0u8; 4];
     let mut i = at;
+    // no count: the list ends with the variable after which no other stands
     loop {
         let e = read_rule::run(s, i + 1, true);
         let end = read_rule::past_type(s, e);
@@ -268,80 +265,8 @@ fn literal(
     }
 }
 
-// The formula at `at` as it stands.
-#[cycle(arrow_further_gather_negative_part_positive_under)]
-fn positive(
-    s: &[u8],
-    at: usize,
-    from: &[usize],
-    to: &[usize],
-    m: usize,
-    sc: Scope,
-    rows: &mut [u8],
-    len: usize,
-    nodes: usize,
-) -> Walk
-    requires in_bounds { (21 ≤ length from.now) × (21 ≤ length to.now) × (length rows.old ≡ 512) }
-    requires ready_in { ReadyIn s.now at from.now to.now m sc (rows_from rows.old len nodes) }
-    ensures { Walks true s.now at from.now to.now m sc (rows_from rows.old len nodes) result.at (rows_from rows.new result.len result.nodes) }
-{
-    let k = read_rule::kind_at(s, at);
-    match k {
-        Kind::Not => {
-            let w = negative(s, at + 5, from, to, m, sc, rows, len, nodes);
-            Walk {
-                len: w.len,
-                nodes: w.nodes,
-                at: w.at + 1,
-            }
-        }
-        Kind::Implies => arrow(s, at, true, from, to, m, sc, rows, len, nodes),
-        Kind::And => gather(s, at, true, true, from, to, m, sc, rows, len, nodes),
-        Kind::Or => gather(s, at, false, true, from, to, m, sc, rows, len, nodes),
-        Kind::Exists => under(s, at, true, true, from, to, m, sc, rows, len, nodes),
-        Kind::Forall => under(s, at, false, true, from, to, m, sc, rows, len, nodes),
-        Kind::Other => literal(s, at, true, from, to, m, sc, rows, len, nodes),
-    }
-}
-
-// The formula at `at` under a negation.
-#[cycle(arrow_further_gather_negative_part_positive_under)]
-fn negative(
-    s: &[u8],
-    at: usize,
-    from: &[usize],
-    to: &[usize],
-    m: usize,
-    sc: Scope,
-    rows: &mut [u8],
-    len: usize,
-    nodes: usize,
-) -> Walk
-    requires in_bounds { (21 ≤ length from.now) × (21 ≤ length to.now) × (length rows.old ≡ 512) }
-    requires ready_in { ReadyIn s.now at from.now to.now m sc (rows_from rows.old len nodes) }
-    ensures { Walks false s.now at from.now to.now m sc (rows_from rows.old len nodes) result.at (rows_from rows.new result.len result.nodes) }
-{
-    let k = read_rule::kind_at(s, at);
-    match k {
-        Kind::Not => {
-            let w = positive(s, at + 5, from, to, m, sc, rows, len, nodes);
-            Walk {
-                len: w.len,
-                nodes: w.nodes,
-                at: w.at + 1,
-            }
-        }
-        Kind::Implies => arrow(s, at, false, from, to, m, sc, rows, len, nodes),
-        Kind::And => gather(s, at, true, false, from, to, m, sc, rows, len, nodes),
-        Kind::Or => gather(s, at, false, false, from, to, m, sc, rows, len, nodes),
-        Kind::Exists => under(s, at, true, false, from, to, m, sc, rows, len, nodes),
-        Kind::Forall => under(s, at, false, false, from, to, m, sc, rows, len, nodes),
-        Kind::Other => literal(s, at, false, from, to, m, sc, rows, len, nodes),
-    }
-}
-
-// A part, as it stands or under a negation.
-#[cycle(arrow_further_gather_negative_part_positive_under)]
+// The formula at `at`, as it stands or under a negation.
+#[cycle(arrow_further_gather_part_under)]
 fn part(
     s: &[u8],
     at: usize,
@@ -358,15 +283,23 @@ fn part(
     requires ready_in { ReadyIn s.now at from.now to.now m sc (rows_from rows.old len nodes) }
     ensures { Walks pos s.now at from.now to.now m sc (rows_from rows.old len nodes) result.at (rows_from rows.new result.len result.nodes) }
 {
-    if pos {
-        positive(s, at, from, to, m, sc, rows, len, nodes)
-    } else {
-        negative(s, at, from, to, m, sc, rows, len, nodes)
+    let k = read_rule::kind_at(s, at);
+    match k {
+        Kind::Not => {
+            let w = part(s, at + 5, !pos, from, to, m, sc, rows, len, nodes);
+            Walk { at: w.at + 1, ..w }
+        }
+        Kind::Implies => arrow(s, at, pos, from, to, m, sc, rows, len, nodes),
+        Kind::And => gather(s, at, true, pos, from, to, m, sc, rows, len, nodes),
+        Kind::Or => gather(s, at, false, pos, from, to, m, sc, rows, len, nodes),
+        Kind::Exists => under(s, at, true, pos, from, to, m, sc, rows, len, nodes),
+        Kind::Forall => under(s, at, false, pos, from, to, m, sc, rows, len, nodes),
+        Kind::Other => literal(s, at, pos, from, to, m, sc, rows, len, nodes),
     }
 }
 
 // An implication: an `or` whose first part is negated, and under a negation an `and` whose second is.
-#[cycle(arrow_further_gather_negative_part_positive_under)]
+#[cycle(arrow_further_gather_part_under)]
 fn arrow(
     s: &[u8],
     at: usize,
@@ -404,7 +337,7 @@ fn join_word(conj: bool) -> usize
 }
 
 // `and`, `or`.
-#[cycle(arrow_further_gather_negative_part_positive_under)]
+#[cycle(arrow_further_gather_part_under)]
 fn gather(
     s: &[u8],
     at: usize,
@@ -437,7 +370,7 @@ fn gather(
 }
 
 // Further parts, each after a space, `many` having come before.
-#[cycle(arrow_further_gather_negative_part_positive_under)]
+#[cycle(arrow_further_gather_part_under)]
 fn further(
     s: &[u8],
     at: usize,
@@ -482,7 +415,7 @@ fn further(
 }
 
 // `exists`, `forall`.
-#[cycle(arrow_further_gather_negative_part_positive_under)]
+#[cycle(arrow_further_gather_part_under)]
 fn under(
     s: &[u8],
     at: usize,
@@ -575,14 +508,12 @@ fn totalities(rows: &mut [u8], len: usize, nodes: usize, sig: Signature) -> Used
     ensures { (q : List ℕ) → Adds (rows_from rows.old len nodes) (post_all nodes (totalitiesOf (5 + sig.rels) (chosen_of q sig))) (length (nodes_all (totalitiesOf (5 + sig.rels) (chosen_of q sig)))) (rows_from rows.new result.len result.nodes) }
 {
     let mut u = Used { len, nodes };
-    let mut i = sig.rels;
     let end = sig.rels + sig.chosen;
-    while i < end {
+    for i in sig.rels..end {
         let kind = sig.kind[i];
         let firsts = sig.firsts[i];
         let seconds = sig.seconds[i];
         u = totality_by_kind(rows, u.len, u.nodes, kind, 5 + i, firsts, seconds);
-        i += 1;
     }
     u
 }
@@ -603,13 +534,13 @@ fn rows_of(text: &[u8], at: usize, end: usize, sig: Signature, rows: &mut [u8]) 
     let m = sig.rels + sig.chosen + sig.every;
     let total = read_rule::totalities(sig);
     if total == 0 {
-        let w = positive(text, at, &from, &to, m, sc, rows, 0, 0);
+        let w = part(text, at, true, &from, &to, m, sc, rows, 0, 0);
         return Used {
             len: w.len,
             nodes: w.nodes,
         };
     }
-    let w = positive(text, at, &from, &to, m, sc, rows, 0, 1);
+    let w = part(text, at, true, &from, &to, m, sc, rows, 0, 1);
     let u = totalities(rows, w.len, w.nodes, sig);
     let row = join_row(2, 0, total + 1);
     rule_nodes::put_row(rows, u.len, row);

@@ -35,8 +35,9 @@ use Rattle.step_prove.specs.Following.{Out, out}
 use Rattle.step_build.specs.Ways.{follow_state, follow_steps, follow_count}
 use Rattle.step_build.specs.Following.{begun_from, Follows}
 use Rattle.step_picks.specs.Handed.{decided}
-use Rattle.step_build.specs.Answers.{planned, answered, Gives}
-use Rattle.step_build.specs.declared.PlanAnswer.TheVariants.{Steps, OtherKind, RuleFalse}
+use Rattle.step_build.specs.Answers.{planned, Gives}
+use Rattle.std.specs.Prelude.{Ok, Err}
+use Rattle.refusal.specs.declared.Cause.TheVariants.{OtherKind, RuleFalse}
 
 -- the front of a table whose bits are a state's is the state's words
 bit_take : (k : ℕ) (t : List ℕ) (i : ℕ) → i < 64 * k → bit (take k t) i ≡ bit t i
@@ -76,15 +77,15 @@ module _ (c : Case) (A : Accepted c) (F : List Tuple) (picks : are_picks c F ≡
 
 -- ---- answers
 module _ (c : Case) (p : Problem) (F : List Tuple) (state steps : List ℕ) where
-  pub gives_kind : (i : ℕ) → some i ≡ first_of_other_kind c F → Gives c p F state steps (OtherKind i) state steps
-  unfolding planned decided satisfying take_picks answered built_from kind_refusal ◌>>=◌
+  pub gives_kind : (i : ℕ) → some i ≡ first_of_other_kind c F → Gives c p F state steps (Err (record { cause = OtherKind; place = i })) state steps
+  unfolding planned decided satisfying take_picks built_from kind_refusal ◌>>=◌
   gives_kind i e labels = rw (sym e)
 
-  pub gives_false : none ≡ first_of_other_kind c F → rule_is_true c F ≡ false → Gives c p F state steps RuleFalse state steps
-  unfolding planned decided satisfying take_picks answered built_from kind_refusal ◌>>=◌ refuse_if
+  pub gives_false : none ≡ first_of_other_kind c F → rule_is_true c F ≡ false → Gives c p F state steps (Err (record { cause = RuleFalse; place = 0 })) state steps
+  unfolding planned decided satisfying take_picks built_from kind_refusal ◌>>=◌ refuse_if
   gives_false e t labels = rw (sym e, t)
 
   pub gives_steps : (k : ℕ) (state' steps' : List ℕ) → none ≡ first_of_other_kind c F → rule_is_true c F ≡ true → k ≡ length (built_steps p F)
-      → state' ≡ written (state_words p (run p (built_steps p F)).state) state → steps' ≡ written (built_steps p F) steps → Gives c p F state steps (Steps k) state' steps'
-  unfolding planned decided satisfying take_picks answered built_from kind_refusal ◌>>=◌ refuse_if
+      → state' ≡ written (state_words p (run p (built_steps p F)).state) state → steps' ≡ written (built_steps p F) steps → Gives c p F state steps (Ok k) state' steps'
+  unfolding planned decided satisfying take_picks built_from kind_refusal ◌>>=◌ refuse_if
   gives_steps k state' steps' e t n a b labels = rw (sym e, t, n, a, b)

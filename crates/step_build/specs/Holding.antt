@@ -1,5 +1,5 @@
 -- Building from the initial state on: the picks are set, the proof begins, and the rounds follow.
-use Prim.Native.Nat.{ℕ, zero, ◌+◌, ◌*◌, ◌/◌, ◌≤◌}
+use Prim.Native.Nat.{ℕ, zero, ◌+◌, ◌/◌}
 use Rattle.std.proofs.Common.{arith, sym, ◌∙◌, append-nil}
 use Rattle.std.specs.Prelude.{◌≡◌, Bool, true, List, ◌∷◌, ◌++◌, length, take, drop}
 use Rattle.std.proofs.Math.Path.{ap}

@@ -16,7 +16,8 @@ use Rattle.step_build.specs.Answers.{Gives}
 use Rattle.step_build.specs.Starts.{Prepared}
 use Rattle.step_build.specs.BuiltLaws.{count_is, steps_are, state_is, gives_false, gives_steps}
 use Rattle.step_build.specs.EndLaws.{state_lent}
-use Rattle.step_build.specs.declared.PlanAnswer.TheVariants.{Steps, RuleFalse}
+use Rattle.std.specs.Prelude.{Ok, Err}
+use Rattle.refusal.specs.declared.Cause.TheVariants.{RuleFalse}
 
 -- what comes back of the first words that were lent is written over them
 front_written : (v : List ℕ) (k : ℕ) (state : List ℕ) → length v ≡ k → v ++ drop k state ≡ written (take k v) state
@@ -31,11 +32,11 @@ module _ (c : Case) (F : List Tuple) (table facts words : List ℕ) (m : ℕ) (s
   kinds : are_of_kinds c F ≡ true
   kinds = kinds_told c F (sym n)
 
-  pub lent_false : (r : Bool) → r ≡ rule_is_true c F → r ≡ false → Gives c (problem_of c) F state steps RuleFalse state steps
+  pub lent_false : (r : Bool) → r ≡ rule_is_true c F → r ≡ false → Gives c (problem_of c) F state steps (Err (record { cause = RuleFalse; place = 0 })) state steps
   lent_false r t e = gives_false c (problem_of c) F state steps n (sym t ∙ e)
 
   module _ (r : Bool) (t : r ≡ rule_is_true c F) (e : r ≡ true) (v steps' : List ℕ) (k : ℕ) (W : Follows c F steps (out (bit v) steps' k)) where
-    pub lent_steps : Words (v ++ drop ((m + 63) / 64) state) → length v ≡ (m + 63) / 64 → Gives c (problem_of c) F state steps (Steps k) (v ++ drop ((m + 63) / 64) state) steps'
+    pub lent_steps : Words (v ++ drop ((m + 63) / 64) state) → length v ≡ (m + 63) / 64 → Gives c (problem_of c) F state steps (Ok k) (v ++ drop ((m + 63) / 64) state) steps'
     lent_steps w l = gives_steps c (problem_of c) F state steps k (v ++ drop ((m + 63) / 64) state) steps' n (sym t ∙ e)
         (count_is c G.case F G.picks kinds steps (out (bit v) steps' k) W)
         (state_lent (problem_of c) v m state (v ++ drop ((m + 63) / 64) state) (words_front v _ w) (omega (arith, l)) G.atoms_are (front_written v ((m + 63) / 64) state l)

@@ -1,6 +1,6 @@
 -- Building from the initial state: what is asked of a case and its picks, and what is given then.
 use Rattle.std.specs.Prelude.{ℕ, ◌+◌, ◌/◌, ◌^◌, ◌≤◌, ◌≡◌, true, List, ◌++◌, length, take, drop}
-use Rattle.std.proofs.Common.{arith, sym, subst, ◌∙◌, length-take}
+use Rattle.std.proofs.Common.{arith, sym, subst, length-take}
 use Rattle.std.proofs.Math.Seq.{length_front}
 use Rattle.definitions.specs.Sheet.Relations.{Tuple}
 use Rattle.definitions.specs.Problem.Truth.{Case, are_picks, every_tuples}

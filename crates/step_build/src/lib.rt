@@ -27,6 +27,8 @@ ghost use Rattle.meaning.specs.Means.{Good};
 ghost use Rattle.meaning.specs.Planning.{round_now};
 ghost use Rattle.step_build.specs.Setting.{set_row, set_rows, set_relation, set_relations, set_count};
 
+use refusal::{Cause, Refusal};
+
 // A tuple is set by the action of this number, if it is picked.
 fn set_row(
     state: &mut [u64],
@@ -105,6 +107,7 @@ fn set_rows(
 {
     let mut k = at;
     let mut off = next_offset(picks, start, 0, count, whole);
+    // no count: the next offset may be many words behind this one
     while off < count {
         let row = row_at(table, line, whole, off);
         let picked = problem_table::test(picks, start + row);
@@ -156,12 +159,10 @@ pub fn set_picks(state: &mut [u64], steps: &mut [u32], table: &[usize], picks: &
 {
     let mut k: usize = 0;
     let mut word: usize = 0;
-    let mut r: usize = 0;
-    while r < table[1] {
+    for r in 0..table[1] {
         let line = problem_table::relation_line(table, r);
         k = set_relation(state, steps, k, table, picks, r, line, 64 * word);
         word += step_picks::words_in(line);
-        r += 1;
     }
     k
 }
@@ -224,14 +225,12 @@ fn marks(state: &mut [u64], steps: &mut [u32], at: usize, table: &[usize], k: us
     let count = problem_table::every_tuples(table);
     let mut n = at;
     let mut m = k;
-    let mut i: usize = 0;
-    while i < count {
+    for i in 0..count {
         if m % 2 == 0 {
             return mark_in(state, steps, n, table, i);
         }
         n = mark_out(state, steps, n, table, i);
         m = m / 2;
-        i += 1;
     }
     n
 }
@@ -273,10 +272,8 @@ fn write_rounds(
         → RoundsTo c F (out (bit state.old) steps.old at) (out (bit state.new) steps.new result) last) }
 {
     let mut n = at;
-    let mut k: usize = 0;
-    while k < last {
+    for k in 0..last {
         n = write_round(state, steps, n, table, k);
-        k += 1;
     }
     n
 }
@@ -345,14 +342,6 @@ fn start_and_follow(
     follow(told, state, steps, table, picks)
 }
 
-// What building gives: how many steps, the index of the first `choose` of which the picks are not, or that the rule is false.
-#[derive(Clone, Copy)]
-pub enum PlanAnswer {
-    Steps(usize),
-    OtherKind(usize),
-    RuleFalse,
-}
-
 // The nodes of a round are filled in; whether its end may be taken.
 fn prove_round(state: &mut [u64], table: &[usize]) -> bool
     requires { Fits table.now }
@@ -371,14 +360,12 @@ fn rounds_hold(left: &mut [u64], table: &[usize]) -> bool
 {
     let last = rounds(table) - 1;
     let mut none = [0u32; 1];
-    let mut k: usize = 0;
-    while k < last {
+    for k in 0..last {
         if prove_round(left, table) {
             end_round(left, &mut none, 0, table, k);
         } else {
             return false;
         }
-        k += 1;
     }
     prove_round(left, table)
 }
@@ -406,7 +393,7 @@ fn build_in(
     facts: &[u64],
     atoms: usize,
     picks: &[u64],
-) -> PlanAnswer
+) -> Result<usize, Refusal>
     requires fits { Fits table.now × (atoms_in table.now ≡ atoms) × (atoms ≤ 2 ^ 20) × ((atoms + 63) / 64 ≤ length state.old) }
     requires left_len { length left.old ≡ (atoms + 63) / 64 }
     ensures { (c : Case) (F : List Tuple) → Prepared c F table.now facts.now picks.now atoms (length steps.old) → none ≡ first_of_other_kind c F
@@ -415,62 +402,26 @@ fn build_in(
     if rule_holds(left, table, facts, atoms, picks) {
         let words = (atoms + 63) / 64;
         let count = start_and_follow(left, &mut state[..words], steps, table, facts, atoms, picks);
-        return PlanAnswer::Steps(count);
+        return Ok(count);
     }
-    PlanAnswer::RuleFalse
+    Err(Cause::RuleFalse.at(0))
 }
 
-// The same with scratch of its own, for up to SMALL atoms.
-fn build_small(
+// The same with so many words of scratch of its own: fewer are cleared where fewer are needed.
+fn build_with<const SCRATCH: usize>(
     state: &mut [u64],
     steps: &mut [u32],
     table: &[usize],
     facts: &[u64],
     atoms: usize,
     picks: &[u64],
-) -> PlanAnswer
-    requires { Fits table.now × (atoms_in table.now ≡ atoms) × (atoms ≤ 1024) × ((atoms + 63) / 64 ≤ length state.old) }
+) -> Result<usize, Refusal>
+    requires { Fits table.now × (atoms_in table.now ≡ atoms) × (atoms ≤ 2 ^ 20) × ((atoms + 63) / 64 ≤ SCRATCH) × (SCRATCH ≤ 2 ^ 20) × ((atoms + 63) / 64 ≤ length state.old) }
     ensures { (c : Case) (F : List Tuple) → Prepared c F table.now facts.now picks.now atoms (length steps.old) → none ≡ first_of_other_kind c F
         → Gives c (problem_of c) F state.old steps.old result state.new steps.new }
 {
     let words = (atoms + 63) / 64;
-    let mut left = [0u64; FEW];
-    build_in(&mut left[..words], state, steps, table, facts, atoms, picks)
-}
-
-// The same for up to LARGE atoms.
-fn build_large(
-    state: &mut [u64],
-    steps: &mut [u32],
-    table: &[usize],
-    facts: &[u64],
-    atoms: usize,
-    picks: &[u64],
-) -> PlanAnswer
-    requires { Fits table.now × (atoms_in table.now ≡ atoms) × (atoms ≤ 2 ^ 16) × ((atoms + 63) / 64 ≤ length state.old) }
-    ensures { (c : Case) (F : List Tuple) → Prepared c F table.now facts.now picks.now atoms (length steps.old) → none ≡ first_of_other_kind c F
-        → Gives c (problem_of c) F state.old steps.old result state.new steps.new }
-{
-    let words = (atoms + 63) / 64;
-    let mut left = [0u64; WORDS];
-    build_in(&mut left[..words], state, steps, table, facts, atoms, picks)
-}
-
-// The same for any number of atoms.
-fn build_most(
-    state: &mut [u64],
-    steps: &mut [u32],
-    table: &[usize],
-    facts: &[u64],
-    atoms: usize,
-    picks: &[u64],
-) -> PlanAnswer
-    requires { Fits table.now × (atoms_in table.now ≡ atoms) × (atoms ≤ 2 ^ 20) × ((atoms + 63) / 64 ≤ length state.old) }
-    ensures { (c : Case) (F : List Tuple) → Prepared c F table.now facts.now picks.now atoms (length steps.old) → none ≡ first_of_other_kind c F
-        → Gives c (problem_of c) F state.old steps.old result state.new steps.new }
-{
-    let words = (atoms + 63) / 64;
-    let mut left = [0u64; MOST];
+    let mut left = [0u64; SCRATCH];
     build_in(&mut left[..words], state, steps, table, facts, atoms, picks)
 }
 
@@ -482,21 +433,22 @@ fn build(
     facts: &[u64],
     atoms: usize,
     picks: &[u64],
-) -> PlanAnswer
+) -> Result<usize, Refusal>
     requires { Fits table.now × (atoms_in table.now ≡ atoms) × (atoms ≤ 2 ^ 20) × ((atoms + 63) / 64 ≤ length state.old) }
     ensures { (c : Case) (F : List Tuple) → Prepared c F table.now facts.now picks.now atoms (length steps.old) → none ≡ first_of_other_kind c F
         → Gives c (problem_of c) F state.old steps.old result state.new steps.new }
 {
     if atoms <= SMALL {
-        return build_small(state, steps, table, facts, atoms, picks);
+        return build_with::<FEW>(state, steps, table, facts, atoms, picks);
     }
     if atoms <= LARGE {
-        return build_large(state, steps, table, facts, atoms, picks);
+        return build_with::<WORDS>(state, steps, table, facts, atoms, picks);
     }
-    build_most(state, steps, table, facts, atoms, picks)
+    build_with::<MOST>(state, steps, table, facts, atoms, picks)
 }
 
-// The steps built from picks and the state that they leave, from the initial state on.
+// How many steps are built from picks, from the initial state on, with the state that they leave; or the first `choose` whose picks are not
+// of its kind, or that the rule is false.
 pub fn start_and_build(
     state: &mut [u64],
     steps: &mut [u32],
@@ -504,18 +456,13 @@ pub fn start_and_build(
     facts: &[u64],
     atoms: usize,
     picks: &[u64],
-) -> PlanAnswer
+) -> Result<usize, Refusal>
     requires { Fits table.now × (atoms_in table.now ≡ atoms) × (atoms ≤ 2 ^ 20) × ((atoms + 63) / 64 ≤ length state.old) }
     ensures { (c : Case) (F : List Tuple) → Prepared c F table.now facts.now picks.now atoms (length steps.old)
         → Gives c (problem_of c) F state.old steps.old result state.new steps.new }
 {
-    let kinds = step_picks::test_kinds(table, picks);
-    match kinds {
-        step_picks::Kinds::Broken(i) => {
-            return PlanAnswer::OtherKind(i);
-        }
-        step_picks::Kinds::Kept => {
-            return build(state, steps, table, facts, atoms, picks);
-        }
+    if let Some(i) = step_picks::test_kinds(table, picks) {
+        return Err(Cause::OtherKind.at(i));
     }
+    build(state, steps, table, facts, atoms, picks)
 }

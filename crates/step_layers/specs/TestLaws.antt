@@ -1,5 +1,5 @@
 -- The code's tests are those of the definitions.
-use Rattle.std.specs.Prelude.{◌≡◌, Bool, ◌&&◌, ℕ, suc, ◌<◌, ◌≤◌, length, get_or, drop, if◌then◌else◌}
+use Rattle.std.specs.Prelude.{◌≡◌, Bool, not, ◌&&◌, ℕ, suc, ◌<◌, ◌≤◌, length, get_or, drop, if◌then◌else◌}
 use Rattle.std.proofs.Math.Path.{refl, sym, ap}
 use Rattle.std.proofs.Common.{◌∙◌, arith, drop_of_length-le, drop-cons}
 use Rattle.std.proofs.Math.Bool.{true, false}
@@ -62,13 +62,20 @@ module _ (w : List ℕ) (s : State) (a : Act) (k : ℕ) (e : k ≡ kind_of a) wh
 
 -- ---- of a number
 module _ (p : Problem) (k : ℕ) (a : Act) (e : a ≡ act_of (action_at p k)) where
-  pub no_action : is_nothing a ≡ true → false ≡ is_action p k
+  no_action : is_nothing a ≡ true → false ≡ is_action p k
   unfolding is_action option
   no_action h = rw (is_none (action_at p k) (sym (ap is_nothing e) ∙ h)) refl
 
-  pub an_action : is_nothing a ≡ false → true ≡ is_action p k
+  an_action : is_nothing a ≡ false → true ≡ is_action p k
   unfolding is_action option
   an_action h = let f = is_some p k a e h in rw f.at refl
+
+  pub action_or_not : not (is_nothing a) ≡ is_action p k
+  action_or_not = by_test (is_nothing a) refl
+    where
+      by_test : (b : Bool) → is_nothing a ≡ b → not b ≡ is_action p k
+      by_test true h = no_action h
+      by_test false h = an_action h
 
 stays_said : (p : Problem) (w : List ℕ) → Is p w → (s : State) (x : Action) → IsAction p x → stays_by w s (said x) ≡ stays p s x
 unfolding stays_by stays said atom_number

@@ -26,11 +26,7 @@ fn is_action(table: &[usize], number: usize) -> bool
     requires { Grounded table.now }
     ensures { (p : Problem) → Is p table.now → result ≡ is_action p number }
 {
-    let a = problem_action::action_at(table, number);
-    if step_run::is_nothing(a) {
-        return false;
-    }
-    true
+    !step_run::is_nothing(problem_action::action_at(table, number))
 }
 
 // 0 for a set action, 1 for begin-proof, 2 for all others.
@@ -38,39 +34,9 @@ fn kind(a: problem_table::Act) -> u8
     ensures { result ≡ kind_of a }
 {
     match a {
-        problem_table::Act::Nothing => {
-            return 2;
-        }
-        problem_table::Act::Set(_) => {
-            return 0;
-        }
-        problem_table::Act::Begin => {
-            return 1;
-        }
-        problem_table::Act::And(_) => {
-            return 2;
-        }
-        problem_table::Act::Or(_) => {
-            return 2;
-        }
-        problem_table::Act::Exists(_) => {
-            return 2;
-        }
-        problem_table::Act::Forall(_) => {
-            return 2;
-        }
-        problem_table::Act::Goal => {
-            return 2;
-        }
-        problem_table::Act::RoundEnd => {
-            return 2;
-        }
-        problem_table::Act::MarkIn(_) => {
-            return 2;
-        }
-        problem_table::Act::MarkOut(_) => {
-            return 2;
-        }
+        problem_table::Act::Set(_) => 0,
+        problem_table::Act::Begin => 1,
+        _ => 2,
     }
 }
 
@@ -102,11 +68,8 @@ fn are_actions(table: &[usize], steps: &[u32]) -> bool
     requires { Grounded table.now }
     ensures { (p : Problem) → Is p table.now → result ≡ all (is_action p) steps.now }
 {
-    let mut i: usize = 0;
-    while i < steps.len() {
-        if is_action(table, steps[i] as usize) {
-            i += 1;
-        } else {
+    for step in steps {
+        if !is_action(table, *step as usize) {
             return false;
         }
     }
@@ -117,11 +80,8 @@ fn all_may(state: &[u64], table: &[usize], steps: &[u32]) -> bool
     requires { Grounded table.now }
     ensures { (p : Problem) → Is p table.now → result ≡ all (may_at p (bit state.now)) steps.now }
 {
-    let mut i: usize = 0;
-    while i < steps.len() {
-        if step_run::may(state, table, steps[i] as usize) {
-            i += 1;
-        } else {
+    for step in steps {
+        if !step_run::may(state, table, *step as usize) {
             return false;
         }
     }
@@ -132,11 +92,8 @@ fn all_stay(state: &[u64], table: &[usize], steps: &[u32]) -> bool
     requires { Grounded table.now }
     ensures { (p : Problem) → Is p table.now → result ≡ all (stay_at p (bit state.now)) steps.now }
 {
-    let mut i: usize = 0;
-    while i < steps.len() {
-        if stay(state, table, steps[i] as usize) {
-            i += 1;
-        } else {
+    for step in steps {
+        if !stay(state, table, *step as usize) {
             return false;
         }
     }
@@ -147,20 +104,7 @@ fn all_stay(state: &[u64], table: &[usize], steps: &[u32]) -> bool
 fn all_taken(e: End) -> bool
     ensures { result ≡ is_taken e }
 {
-    match e {
-        End::Done(_) => {
-            return true;
-        }
-        End::NoAction(_) => {
-            return false;
-        }
-        End::NotNow(_) => {
-            return false;
-        }
-        End::NoGoal(_) => {
-            return true;
-        }
-    }
+    matches!(e, End::Done(_) | End::NoGoal(_))
 }
 
 // A layer is taken: 0, or 13 or 14 where it is refused; the state is then of no use.
@@ -170,20 +114,19 @@ pub fn take_layer(state: &mut [u64], table: &[usize], steps: &[u32]) -> u8
         → (result ≡ layer_code p (bit state.old) steps.now)
         × (result ≡ 0 → bit state.new ≡ layer_state p (bit state.old) steps.now) }
 {
-    if are_actions(table, steps) {
-        if all_may(state, table, steps) {
-            let e = step_run::run(state, table, steps);
-            if all_taken(e) {
-                if all_stay(state, table, steps) {
-                    return 0;
-                }
-                return 14;
-            }
-            return 14;
-        }
+    if !are_actions(table, steps) {
+        return 13;
+    }
+    if !all_may(state, table, steps) {
         return 14;
     }
-    13
+    if !all_taken(step_run::run(state, table, steps)) {
+        return 14;
+    }
+    if !all_stay(state, table, steps) {
+        return 14;
+    }
+    0
 }
 
 // How layers end, and, where one is refused, how many steps there are before it.
@@ -202,10 +145,9 @@ pub fn run_layers(state: &mut [u64], table: &[usize], steps: &[u32], ends: &[u32
         × ((p : Problem) → Good p → NoEvery p → Is p table.now → atoms p ≤ 64 * length state.old
         → LayersEnd p (bit state.old) steps.now ends.now result.end result.before (bit state.new)) }
 {
-    let mut i: usize = 0;
     let mut k: usize = 0;
-    while i < ends.len() {
-        let e = ends[i] as usize;
+    for (i, end) in ends.iter().enumerate() {
+        let e = *end as usize;
         let code = take_layer(state, table, &steps[k..e]);
         if code == 13 {
             return Layers {
@@ -220,16 +162,15 @@ pub fn run_layers(state: &mut [u64], table: &[usize], steps: &[u32], ends: &[u32
             };
         }
         k = e;
-        i += 1;
     }
     if problem_table::test(state, 2) {
         return Layers {
-            end: End::Done(i),
+            end: End::Done(ends.len()),
             before: k,
         };
     }
     Layers {
-        end: End::NoGoal(i),
+        end: End::NoGoal(ends.len()),
         before: k,
     }
 }
@@ -264,21 +205,16 @@ pub fn ends_fault(ends: &[u32], count: usize) -> usize
     ensures { (ends_test count 0 0 ends.now ≡ (if eqb result 0 then accepted tt else refused 3 (result - 1)))
         × (result ≡ 0 → AreEnds count 0 ends.now) }
 {
-    let mut i: usize = 0;
     let mut k: usize = 0;
-    while i < ends.len() {
-        let e = ends[i] as usize;
+    for (i, end) in ends.iter().enumerate() {
+        let e = *end as usize;
         if e < k {
             return i + 1;
         }
         k = e;
-        i += 1;
     }
     if k == count {
         return 0;
     }
-    if i == 0 {
-        return 1;
-    }
-    i
+    ends.len().max(1)
 }

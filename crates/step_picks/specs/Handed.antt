@@ -15,7 +15,8 @@ use Rattle.definitions.specs.Reply.Outcome.{ThirdInput, as_text, as_numbers, pic
 use Rattle.read_names.specs.Signatures.{chosen_of}
 use Rattle.laws.specs.Labels.{LabelsFit}
 use Rattle.laws.specs.Reader.{Accepted}
-use Rattle.read_sheets.specs.Reading.{PicksIn, PicksRoom}
+use Rattle.std.specs.Prelude.{Ok}
+use Rattle.read_sheets.specs.Reading.{GotPicks, PicksRoom}
 use Rattle.read_sheets.specs.declared.Opened.{Opened}
 use Rattle.read_sheets.specs.Opening.{Holds}
 use Rattle.step_picks.specs.Picked.{Held, text_fits, text_are, text_front, text_clear, lent_are, lent_front}
@@ -43,14 +44,14 @@ module _ (c : Case) (labels : List Label) (given : ThirdInput) (words : List ℕ
 -- ---- from a text
 pub text_handed : (s : List ℕ) (c : Case) (A : Accepted c) (o : Opened) (facts : ℕ → Bool) → Holds s c o facts → (labels : List Label) → LabelsFit c.site.size labels
     → (text : List ℕ) (F : List Tuple) → text_picks c labels (as_text text) ≡ accepted F
-    → (w : List ℕ) → Words w → PicksRoom o.sig o.n (length w) → PicksIn o.sig o.n (read_picks (chosen_of s o.sig) (5 + o.sig.rels) o.n labels text) (bit w) → Handed c labels (as_text text) w F F
+    → (w : List ℕ) → Words w → PicksRoom o.sig o.n (length w) → (k : ℕ) → GotPicks o.sig o.n (read_picks (chosen_of s o.sig) (5 + o.sig.rels) o.n labels text) (Ok k) (bit w) → Handed c labels (as_text text) w F F
 unfolding picks_room take_picks room_for refuse_if spare_refusal ◌>>=◌
-text_handed s c A o facts h labels fit text F t w ok room held =
+text_handed s c A o facts h labels fit text F t w ok room k held =
     record {
       is_read = t;
       room_is = rw (le-ltb (length w) (picks_length (problem_of c)) (text_fits s c A o facts h (length w) room)) refl;
-      taken = rw (text_clear s c A o facts h labels fit text F t w ok room held) refl;
-      held = λ _ _. (text_are s c A o facts h labels fit text F t, text_front s c A o facts h labels fit text F t w ok room held);
+      taken = rw (text_clear s c A o facts h labels fit text F t w ok room k held) refl;
+      held = λ _ _. (text_are s c A o facts h labels fit text F t, text_front s c A o facts h labels fit text F t w ok room k held);
     }
 
 -- ---- lent

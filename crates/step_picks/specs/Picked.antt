@@ -1,7 +1,7 @@
 -- Words that hold picks: what is asked of them, for picks read from a text and for lent words.
 use Prim.Native.Nat.{ℕ, zero, suc, ◌+◌, ◌-◌, ◌*◌, ◌≤◌, ◌<◌}
 use Rattle.std.specs.Prelude.{◌≡◌, Bool, true, false, ◌&&◌, if◌then◌else◌}
-use Rattle.std.proofs.Math.Path.{refl, sym, ap, ap₂, subst}
+use Rattle.std.proofs.Math.Path.{refl, sym, ap, ap₂, subst, subst₂}
 use Rattle.std.proofs.Common.{◌∙◌, zero-add, take-append-drop, length-take-le, lt-ltb}
 use Rattle.std.proofs.Math.Option.{none}
 use mathlib.Core.List.{List, [], ◌∷◌, ◌++◌, append_assoc}
@@ -12,7 +12,7 @@ use Rattle.std.proofs.Math.ListN.{length, take, drop, get_or}
 use Rattle.bits.specs.Table.{bit, words, Words}
 use Rattle.bits.proofs.Laws.{bit_words, length_words, is_words}
 use Rattle.definitions.specs.Lists.{filter, flat_map, from, below}
-use Rattle.definitions.specs.Refusal.{Result, accepted}
+use Rattle.definitions.specs.Refusal.{accepted}
 use Rattle.definitions.specs.Sheet.Relations.{Relation, Tuple, is_chosen}
 use Rattle.definitions.specs.Sheet.Sheets.{Label, read_picks, first_chosen}
 use Rattle.definitions.specs.Problem.Truth.{Case, are_picks}
@@ -26,6 +26,7 @@ use Rattle.read_names.specs.Signatures.{relation_in, chosen_of, rels_of}
 use Rattle.read_names.proofs.Laws.{length_relations, relation_at_lem}
 use Rattle.read_tuples.specs.Marks.{first_word, bit_of, marks, AllValid, Roomy}
 use Rattle.read_tuples.proofs.Words as W
+use Rattle.laws.specs.Results.{accepted_eq}
 use Rattle.laws.specs.Reader.{Accepted}
 use Rattle.meaning.specs.Grounded.{first_chosen_lem, good, chosen_at}
 use Rattle.laws.specs.Labels.{LabelsFit, no_labels}
@@ -33,7 +34,8 @@ use Rattle.meaning.specs.Building.{given_text, given_words, given_picks}
 use Rattle.meaning.specs.Lent.{words_take, words_of, words_again, pick_words_lem}
 use Rattle.meaning.specs.KindRows.{numbers_are}
 use Rattle.step_picks.specs.Words.{word_start, PicksAre}
-use Rattle.read_sheets.specs.Reading.{Picks, PicksIn, PicksRoom}
+use Rattle.std.specs.Prelude.{Ok}
+use Rattle.read_sheets.specs.Reading.{Picks, GotPicks, PicksRoom}
 use Rattle.read_sheets.specs.declared.Opened.{Opened}
 use Rattle.read_sheets.specs.Opening.{Holds, elements_are}
 
@@ -158,10 +160,11 @@ module _ (s : List ℕ) (c : Case) (A : Accepted c) (o : Opened) (facts : ℕ �
     unfolding text_picks
     text_are = given_picks c A labels fit (as_text text) F (given_text c labels (problem_of c) text ∙ read)
 
-    module _ (w : List ℕ) (ok : Words w) (room : PicksRoom o.sig o.n (length w)) (held : PicksIn o.sig o.n (read_picks (chosen_of s o.sig) (5 + o.sig.rels) o.n labels text) (bit w)) where
+    module _ (w : List ℕ) (ok : Words w) (room : PicksRoom o.sig o.n (length w)) (k : ℕ) (held : GotPicks o.sig o.n (read_picks (chosen_of s o.sig) (5 + o.sig.rels) o.n labels text) (Ok k) (bit w)) where
       its_picks : Picks o.sig (problem_of c).size F (bit w)
-      unfolding PicksIn
-      its_picks = subst (λ (n : ℕ). Picks o.sig n F (bit w)) size (subst (λ (r : Result (List Tuple)). PicksIn o.sig o.n r (bit w)) (text_read labels text ∙ read) held)
+      its_picks =
+          let (picks, e, l, p) = held in
+          subst₂ (λ (n : ℕ) (ts : List Tuple). Picks o.sig n ts (bit w)) size (accepted_eq picks F (sym e ∙ text_read labels text ∙ read)) p
 
       -- the words' front is written for the picks read
       pub text_front : take (picks_length (problem_of c)) w ≡ pick_words (problem_of c) F

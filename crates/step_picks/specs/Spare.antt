@@ -29,8 +29,6 @@ use Rattle.problem_table.specs.declared.RelationLine.{RelationLine}
 use Rattle.step_picks.specs.Words.{is_open, words_in}
 use Rattle.step_picks.specs.WordLaws.{is_open_lem, tuples_are}
 use Rattle.bits.proofs.Shifts.{right_digit}
-use Rattle.step_picks.specs.declared.Spare.{Spare}
-use Rattle.step_picks.specs.declared.Spare.TheVariants.{Clear, Word}
 
 -- whether a bit is set past so many tuples' bits, in the last of their words, which start with word `word`
 unfoldable pub is_spare : List ℕ → ℕ → ℕ → Bool
@@ -39,11 +37,6 @@ is_spare w word tuples = if eqb (tuples % 64) 0 then false else ltb 0 (get_or w 
 -- the same for a relation's line; only a `choose` has words
 unfoldable pub spare_in : List ℕ → ℕ → RelationLine → Bool
 spare_in w word x = if is_open x.kind then is_spare w word (x.nots - x.tuples) else false
-
--- the word that an answer names
-unfoldable pub spare_found : Spare → Option ℕ
-spare_found Clear = none
-spare_found (Word j) = some j
 
 module _ (p : Problem) (u : List ℕ) (ok : Words u) (r : ℕ) where
   abbrev t : ℕ

@@ -25,7 +25,7 @@ use Rattle.meaning.specs.KindRows.{has_two, is_crowded, is_stray, breaks, none_s
 use Rattle.step_picks.specs.Words.{word_start, is_open, words_in, rows_in}
 use Rattle.step_picks.specs.WordLaws.{kind_open, is_kind, word_next}
 use Rattle.step_picks.specs.Tests.{crowds_by, breaks_by, firsts_in, seconds_in, are_inside, chosen_by, broken_at, broken_from, told}
-use Rattle.step_picks.specs.declared.Kinds.TheVariants.{Kept, Broken}
+use Rattle.std.specs.Prelude.{Some, None}
 
 -- ---- counts
 pub num_le : (b : Bool) → num b ≤ 1
@@ -239,11 +239,11 @@ module _ (p : Problem) (f : ℕ → ℕ → Bool) where
   broken_all = broken_position (length p.relations) 0 0 ∙ plain_option (position (broken_at p f) (filter (λ r. is_chosen (relation_at p r).kind) (from 0 (length p.relations))))
 
 -- ---- answers
-pub told_kept : told Kept ≡ none
+pub told_kept : told None ≡ none
 unfolding told
 told_kept = refl
 
-pub told_broken : (i : ℕ) → told (Broken i) ≡ some i
+pub told_broken : (i : ℕ) → told (Some i) ≡ some i
 unfolding told
 told_broken i = refl
 

@@ -1,5 +1,7 @@
 -- The declared kinds by the table: which kinds break, and the first `choose` that does.
 use Rattle.std.specs.Prelude.{ℕ, zero, suc, ◌+◌, Bool, not, ◌&&◌, ◌||◌, List, ltb, if◌then◌else◌}
+use Rattle.std.specs.Prelude.{Some, None}
+use Rattle.std.specs.Prelude as P
 use Rattle.std.proofs.Math.Option.{Option, none, some}
 use Rattle.definitions.specs.Lists.{is_in}
 use Rattle.definitions.specs.Sheet.Relations.{is_chosen}
@@ -8,8 +10,6 @@ use Rattle.problem_table.specs.Lines.{members_in, is_placeless}
 use Rattle.problem_table.specs.declared.RelationLine.{RelationLine}
 use Rattle.meaning.specs.KindRows.{is_crowded, is_stray, breaks}
 use Rattle.step_picks.specs.Words.{is_open}
-use Rattle.step_picks.specs.declared.Kinds.{Kinds}
-use Rattle.step_picks.specs.declared.Kinds.TheVariants.{Kept, Broken}
 
 -- the elements that the places of a function kind go over
 abbrev pub firsts_in : List ℕ → RelationLine → List ℕ
@@ -41,7 +41,7 @@ broken_from p f r zero i = none
 broken_from p f r (suc k) i =
     if broken_at p f r then some i else broken_from p f (suc r) k (i + (if is_chosen (relation_at p r).kind then 1 else zero))
 
--- an answer
-unfoldable pub told : Kinds → Option ℕ
-told Kept = none
-told (Broken i) = some i
+-- what is found, or that nothing is, as the code tells it
+unfoldable pub told : P.Option ℕ → Option ℕ
+told None = none
+told (Some i) = some i

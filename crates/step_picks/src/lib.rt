@@ -15,35 +15,22 @@ ghost use Rattle.meaning.specs.KindRows.{is_crowded, is_stray};
 ghost use Rattle.step_picks.specs.Words.{is_open, words_in, rows_in};
 ghost use Rattle.step_picks.specs.Tests.{crowds_by, breaks_by, firsts_in, seconds_in, are_inside, chosen_by, broken_at, told};
 ghost use Rattle.step_picks.specs.Copies.{line_words, picks_in, Copied};
-ghost use Rattle.step_picks.specs.Spare.{is_spare, spare_in, spare_found};
+ghost use Rattle.step_picks.specs.Spare.{is_spare, spare_in};
 
 use problem_table::RelationLine;
-
-// Whether picks are of the declared kinds, or the index of the first `choose` of which they are not.
-#[derive(Clone, Copy)]
-pub enum Kinds {
-    Kept,
-    Broken(usize),
-}
 
 // How many tuples a relation has.
 pub fn tuples_in(k: RelationLine) -> usize
     ensures { result ≡ k.nots - k.tuples }
 {
-    if k.tuples < k.nots {
-        return k.nots - k.tuples;
-    }
-    0
+    k.nots.saturating_sub(k.tuples)
 }
 
 // Whether a kind is that of a `choose`.
 pub fn is_chosen(kind: usize) -> bool
     ensures { result ≡ is_open kind }
 {
-    if kind == 0 {
-        return false;
-    }
-    kind < 6
+    kind != 0 && kind < 6
 }
 
 // How many words its picks have.
@@ -62,20 +49,14 @@ pub fn words_in(k: RelationLine) -> usize
 fn chosen(kind: usize) -> usize
     ensures { result ≡ chosen_by kind }
 {
-    if is_chosen(kind) {
-        return 1;
-    }
-    0
+    usize::from(is_chosen(kind))
 }
 
 // Bit i as a number.
 fn digit(words: &[u64], i: usize) -> usize
     ensures { result ≡ num (bit words.now i) }
 {
-    if problem_table::test(words, i) {
-        return 1;
-    }
-    0
+    usize::from(problem_table::test(words, i))
 }
 
 // How many of n bits are set that stand `stride` apart, from bit `start` on.
@@ -84,10 +65,8 @@ fn tally(picks: &[u64], start: usize, stride: usize, n: usize) -> usize
     ensures { result ≡ «count_of» (λ y. bit picks.now (start + y * stride)) 0 n }
 {
     let mut sum: usize = 0;
-    let mut i: usize = 0;
-    while i < n {
+    for i in 0..n {
         sum += digit(picks, start + i * stride);
-        i += 1;
     }
     sum
 }
@@ -97,12 +76,10 @@ fn crowded(picks: &[u64], start: usize, n: usize, a: usize, b: usize) -> bool
     requires { (start ≤ 2 ^ 39) × (n ≤ 64) × (a ≤ 64) × (b ≤ 64) }
     ensures { result ≡ is_crowded (λ i. bit picks.now (start + i)) n a b }
 {
-    let mut x: usize = 0;
-    while x < n {
+    for x in 0..n {
         if 1 < tally(picks, start + x * a, b, n) {
             return true;
         }
-        x += 1;
     }
     false
 }
@@ -132,12 +109,10 @@ fn among(table: &[usize], at: usize, count: usize, x: usize) -> bool
     requires { (length table.now ≡ table_length) × (at + count ≤ table_length) }
     ensures { result ≡ is_in x (members_in table.now at count) }
 {
-    let mut i: usize = 0;
-    while i < count {
-        if table[at + i] == x {
+    for y in &table[at..at + count] {
+        if *y == x {
             return true;
         }
-        i += 1;
     }
     false
 }
@@ -147,10 +122,8 @@ fn inside(table: &[usize], line: RelationLine, x: usize, y: usize) -> bool
     requires { (length table.now ≡ table_length) × PlacesFit table.now line }
     ensures { result ≡ are_inside table.now line x y }
 {
-    if among(table, line.firsts, line.first_count, x) {
-        return among(table, line.seconds, line.second_count, y);
-    }
-    false
+    among(table, line.firsts, line.first_count, x)
+        && among(table, line.seconds, line.second_count, y)
 }
 
 // Whether bit i is set, that of a pair outside the types.
@@ -158,10 +131,7 @@ fn stray(picks: &[u64], i: usize, table: &[usize], line: RelationLine, x: usize,
     requires { (length table.now ≡ table_length) × PlacesFit table.now line }
     ensures { result ≡ (bit picks.now i && not (are_inside table.now line x y)) }
 {
-    if problem_table::test(picks, i) {
-        return !inside(table, line, x, y);
-    }
-    false
+    problem_table::test(picks, i) && !inside(table, line, x, y)
 }
 
 // Whether one of the n pairs with the first place x is picked outside the types; their bits start at bit `start`.
@@ -176,12 +146,10 @@ fn row_strays(
     requires { (length table.now ≡ table_length) × PlacesFit table.now line × (start ≤ 2 ^ 40) × (n ≤ 64) }
     ensures { result ≡ any (λ y. bit picks.now (start + y) && not (are_inside table.now line x y)) (below n) }
 {
-    let mut y: usize = 0;
-    while y < n {
+    for y in 0..n {
         if stray(picks, start + y, table, line, x, y) {
             return true;
         }
-        y += 1;
     }
     false
 }
@@ -191,12 +159,10 @@ fn some_strays(picks: &[u64], start: usize, n: usize, table: &[usize], line: Rel
     requires { (length table.now ≡ table_length) × PlacesFit table.now line × (start ≤ 2 ^ 39) × (n ≤ 64) }
     ensures { result ≡ is_stray (λ i. bit picks.now (start + i)) n (firsts_in table.now line) (seconds_in table.now line) }
 {
-    let mut x: usize = 0;
-    while x < n {
+    for x in 0..n {
         if row_strays(picks, start + x * n, n, table, line, x) {
             return true;
         }
-        x += 1;
     }
     false
 }
@@ -216,8 +182,8 @@ fn breaks_kind(picks: &[u64], start: usize, n: usize, table: &[usize], line: Rel
     some_strays(picks, start, n, table, line)
 }
 
-// Whether picks are of the declared kinds.
-pub fn test_kinds(table: &[usize], picks: &[u64]) -> Kinds
+// The index of the first `choose` whose picks are not of the declared kind.
+pub fn test_kinds(table: &[usize], picks: &[u64]) -> Option<usize>
     requires { Fits table.now }
     ensures { (p : Problem) → Is p table.now
         → told result ≡ position (broken_at p (rows_in p picks.now)) (chosen_numbers p) }
@@ -225,17 +191,15 @@ pub fn test_kinds(table: &[usize], picks: &[u64]) -> Kinds
     let n = table[0];
     let mut i: usize = 0;
     let mut word: usize = 0;
-    let mut r: usize = 0;
-    while r < table[1] {
+    for r in 0..table[1] {
         let line = problem_table::relation_line(table, r);
         if breaks_kind(picks, 64 * word, n, table, line) {
-            return Kinds::Broken(i);
+            return Some(i);
         }
         word += words_in(line);
         i += chosen(line.kind);
-        r += 1;
     }
-    Kinds::Kept
+    None
 }
 
 // The tuples of a `choose` that hold, written from word `word` on; of another relation nothing is written.
@@ -245,10 +209,8 @@ fn copy_relation(state: &[u64], line: RelationLine, picks: &mut [u64], word: usi
 {
     let count = words_in(line);
     let tuples = tuples_in(line);
-    let mut j: usize = 0;
-    while j < count {
+    for j in 0..count {
         picks[word + j] = bits::cut(state, line.tuples + 64 * j, tuples - 64 * j);
-        j += 1;
     }
 }
 
@@ -259,11 +221,9 @@ pub fn picks_length(table: &[usize]) -> usize
     ensures picks { (p : Problem) → Is p table.now → result ≡ picks_length p }
 {
     let mut sum: usize = 0;
-    let mut r: usize = 0;
-    while r < table[1] {
+    for r in 0..table[1] {
         let line = problem_table::relation_line(table, r);
         sum += words_in(line);
-        r += 1;
     }
     sum
 }
@@ -275,20 +235,11 @@ pub fn copy_picks(table: &[usize], state: &[u64], picks: &mut [u64])
     ensures { Copied table.now state.now picks.old picks.new }
 {
     let mut word: usize = 0;
-    let mut r: usize = 0;
-    while r < table[1] {
+    for r in 0..table[1] {
         let line = problem_table::relation_line(table, r);
         copy_relation(state, line, picks, word);
         word += words_in(line);
-        r += 1;
     }
-}
-
-// The first word of lent picks that has a spare bit set, or that none has.
-#[derive(Clone, Copy)]
-pub enum Spare {
-    Clear,
-    Word(usize),
 }
 
 // Whether a bit is set past those of so many tuples, whose words start with word `word`; they leave bits over in the last one alone.
@@ -297,10 +248,7 @@ fn spare_past(picks: &[u64], word: usize, tuples: usize) -> bool
     ensures { result ≡ is_spare picks.now word tuples }
 {
     let used = tuples % 64;
-    if used == 0 {
-        return false;
-    }
-    0 < bits::word_at(picks, word + tuples / 64) >> used
+    used != 0 && 0 < bits::word_at(picks, word + tuples / 64) >> used
 }
 
 // Whether a relation has a spare bit set; only a `choose` has words.
@@ -308,27 +256,21 @@ fn has_spare(picks: &[u64], word: usize, line: RelationLine) -> bool
     requires { (word ≤ 2 ^ 32) × (line.nots ≤ 2 ^ 32) }
     ensures { result ≡ spare_in picks.now word line }
 {
-    if is_chosen(line.kind) {
-        let tuples = tuples_in(line);
-        return spare_past(picks, word, tuples);
-    }
-    false
+    is_chosen(line.kind) && spare_past(picks, word, tuples_in(line))
 }
 
 // The first word of lent picks that has a spare bit set.
-pub fn spare_word(table: &[usize], picks: &[u64]) -> Spare
+pub fn spare_word(table: &[usize], picks: &[u64]) -> Option<usize>
     requires { Fits table.now }
-    ensures { (p : Problem) → Is p table.now → spare_found result ≡ spare_word p picks.now 0 (chosen_numbers p) }
+    ensures { (p : Problem) → Is p table.now → told result ≡ spare_word p picks.now 0 (chosen_numbers p) }
 {
     let mut word: usize = 0;
-    let mut r: usize = 0;
-    while r < table[1] {
+    for r in 0..table[1] {
         let line = problem_table::relation_line(table, r);
         if has_spare(picks, word, line) {
-            return Spare::Word(word + tuples_in(line) / 64);
+            return Some(word + tuples_in(line) / 64);
         }
         word += words_in(line);
-        r += 1;
     }
-    Spare::Clear
+    None
 }

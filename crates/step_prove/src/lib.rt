@@ -23,16 +23,6 @@ pub struct Elements {
     pub stride: usize,
 }
 
-// How far b is past a; 0 where it is not.
-pub fn gap(a: usize, b: usize) -> usize
-    ensures { result ≡ b - a }
-{
-    if a < b {
-        return b - a;
-    }
-    0
-}
-
 // Entry `at` becomes k, where there is such an entry.
 pub fn put(steps: &mut [u32], at: usize, k: usize)
     ensures { k < 2 ^ 32 → steps.new ≡ «set_at» steps.old at k }
@@ -69,15 +59,12 @@ fn first_member(
     requires { (length table.now ≡ table_length) × (range + count ≤ table_length) × ((i : ℕ) → i < count → get_or table.now (range + i) 0 ≤ 64) × (start ≤ 2 ^ 42) × (stride ≤ 2 ^ 32) }
     ensures { result ≡ first_from (λ i. bit state.now (start + get_or table.now (range + i) 0 * stride)) 0 count }
 {
-    let mut i: usize = 0;
-    while i < count {
-        let k = start + table[range + i] * stride;
-        if problem_table::test(state, k) {
+    for (i, x) in table[range..range + count].iter().enumerate() {
+        if problem_table::test(state, start + *x * stride) {
             return i;
         }
-        i += 1;
     }
-    i
+    count
 }
 
 // The first of `tries` parts whose atom holds, from part `first` on; `tries` where none does.
@@ -85,14 +72,12 @@ fn first_part(state: &[u64], table: &[usize], first: usize, tries: usize, env: [
     requires { Fits table.now × (first + tries ≤ 64) × Most env 64 }
     ensures { result ≡ first_from (λ i. bit state.now (part_at table.now (value_in env) (first + i))) 0 tries }
 {
-    let mut i: usize = 0;
-    while i < tries {
+    for i in 0..tries {
         if problem_table::part_holds(state, table, first + i, env) {
             return i;
         }
-        i += 1;
     }
-    i
+    tries
 }
 
 // The first of one try.
@@ -180,9 +165,7 @@ pub fn advance(n: usize, width: usize, digits: &mut [usize])
     requires { (n ≤ 64) × (width ≤ 4) × (length digits.old ≡ 4) × Within n digits.old × Rest width digits.old }
     ensures { Within n digits.new × Rest width digits.new × ((row : ℕ) → Digits n width row digits.old → Digits n width (row + 1) digits.new) }
 {
-    let mut i = width;
-    while 0 < i {
-        i -= 1;
+    for i in (0..width).rev() {
         let d = digits[i] + 1;
         if d < n {
             digits[i] = d;

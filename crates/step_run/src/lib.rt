@@ -27,41 +27,7 @@ pub enum End {
 pub fn is_nothing(a: problem_table::Act) -> bool
     ensures { result ≡ is_nothing a }
 {
-    match a {
-        problem_table::Act::Nothing => {
-            return true;
-        }
-        problem_table::Act::Set(_) => {
-            return false;
-        }
-        problem_table::Act::Begin => {
-            return false;
-        }
-        problem_table::Act::And(_) => {
-            return false;
-        }
-        problem_table::Act::Or(_) => {
-            return false;
-        }
-        problem_table::Act::Exists(_) => {
-            return false;
-        }
-        problem_table::Act::Forall(_) => {
-            return false;
-        }
-        problem_table::Act::Goal => {
-            return false;
-        }
-        problem_table::Act::RoundEnd => {
-            return false;
-        }
-        problem_table::Act::MarkIn(_) => {
-            return false;
-        }
-        problem_table::Act::MarkOut(_) => {
-            return false;
-        }
-    }
+    matches!(a, problem_table::Act::Nothing)
 }
 
 // The steps are taken from a state on, each if it may be; the state is left as it is before the first that is refused, or at the end.
@@ -71,24 +37,20 @@ pub fn run(state: &mut [u64], table: &[usize], steps: &[u32]) -> End
         → (ended result ≡ (run_from p (bit state.old) 0 steps.now).answer)
         × (bit state.new ≡ (run_from p (bit state.old) 0 steps.now).state) }
 {
-    let mut i: usize = 0;
-    while i < steps.len() {
-        let k = steps[i] as usize;
-        let a = problem_action::action_at(table, k);
+    for (i, k) in steps.iter().enumerate() {
+        let a = problem_action::action_at(table, *k as usize);
         if is_nothing(a) {
             return End::NoAction(i);
         }
-        if problem_table::may_take(state, table, a) {
-            problem_table::take(state, table, a);
-        } else {
+        if !problem_table::may_take(state, table, a) {
             return End::NotNow(i);
         }
-        i += 1;
+        problem_table::take(state, table, a);
     }
     if problem_table::test(state, 2) {
-        return End::Done(i);
+        return End::Done(steps.len());
     }
-    End::NoGoal(i)
+    End::NoGoal(steps.len())
 }
 
 // Whether the action of a number may be taken; of no action it may not.

@@ -62,14 +62,6 @@ module _ (f : List ℕ) (n r kind first row : ℕ) where
   is_unpicked h e = let l : 3 ≤ r = omega arith in rw (le-ltb r 3 l, le-ltb r 5 h, ne_eqb kind 0 e) refl
 
 -- ---- how many
-pub rows_are : (k : RelationLine) → k.nots - k.tuples ≡ rows_in k
-unfolding rows_in
-rows_are k = refl
-
-pub rows_none : (k : RelationLine) → k.nots ≤ k.tuples → 0 ≡ rows_in k
-unfolding rows_in
-rows_none k h = omega arith
-
 pub rows_le : (k : RelationLine) → rows_in k ≤ k.nots
 unfolding rows_in
 rows_le k = omega arith

@@ -20,7 +20,7 @@ fn built_in_word(n: usize, r: usize, x: usize, row: usize) -> u64
         return bits::single(x);
     }
     if r == 1 {
-        return !bits::mask(bits::least(x + 1, 64));
+        return !bits::mask((x + 1).min(64));
     }
     if r == 2 {
         return bits::single(x + 1);
@@ -35,10 +35,7 @@ fn built_in_word(n: usize, r: usize, x: usize, row: usize) -> u64
 fn rows(k: RelationLine) -> usize
     ensures { result ≡ rows_in k }
 {
-    if k.tuples < k.nots {
-        return k.nots - k.tuples;
-    }
-    0
+    k.nots.saturating_sub(k.tuples)
 }
 
 // How many free atoms a relation has: an element each for kinds 2 to 5, and once more for 4 and 5.
@@ -64,17 +61,15 @@ fn put_built_in(state: &mut [u64], to: usize, count: usize, n: usize, r: usize, 
     ensures { to + count ≤ 64 * length state.old
         → bit state.new ≡ paste (bit state.old) to (λ i. turned flip (built_in_at n r i)) 0 count }
 {
-    let mut row: usize = 0;
     let mut x: usize = 0;
-    while row < count {
-        let c = bits::least(n, count - row);
+    for row in (0..count).step_by(n) {
+        let c = (count - row).min(n);
         bits::store(
             state,
             to + row,
             c,
             bits::turn(built_in_word(n, r, x, row), flip),
         );
-        row += c;
         x += 1;
     }
 }
@@ -136,11 +131,9 @@ fn put_relations(state: &mut [u64], facts: &[u64], table: &[usize])
 {
     let count = table[1];
     let mut first: usize = 0;
-    let mut r: usize = 0;
-    while r < count {
+    for r in 0..count {
         put_relation(state, facts, table, r, first);
         first += words(table, r);
-        r += 1;
     }
 }
 

@@ -1,10 +1,10 @@
 -- The turns of the loops that fill a node: the word that is written says of each row that it stands for what its atom means.
-use Rattle.std.specs.Prelude.{ℕ, zero, suc, ◌+◌, ◌-◌, ◌*◌, ◌^◌, ◌<◌, ◌≤◌, Bool, ◌&&◌, eqb, leb, ltb, length, get_or, take, if◌then◌else◌}
+use Rattle.std.specs.Prelude.{ℕ, zero, suc, ◌+◌, ◌-◌, ◌*◌, ◌/◌, ◌^◌, ◌<◌, ◌≤◌, Bool, ◌&&◌, eqb, leb, ltb, length, get_or, take, if◌then◌else◌}
 use Rattle.std.proofs.Math.Path.{◌≡◌, refl, sym, ap, fun_ext}
 use Rattle.std.proofs.Common.{ap₂, subst, ◌∙◌, arith, add-zero, mul-le-mul, pow-suc, lt→ltb, ltb-true, ltb-false}
 use Rattle.std.proofs.Math.Bool.{true, false}
 use mathlib.Core.List.{List, Memᴰ}
-use Rattle.std.proofs.Math.Nat.{pow-zero}
+use Rattle.std.proofs.Math.Nat.{pow-zero, mul-le-mul_right, add-mul, one-mul, le-div_iff_mul-le, div-mul-le_self, mod-eq-sub-div-mul, mod-lt}
 use Rattle.definitions.specs.Lists.{all, any, from, is_in, up_to}
 use Rattle.definitions.specs.Sheet.Relations.{Tuple}
 use Rattle.definitions.specs.Problem.Tree.{Tree, leaf, forall_node, exists_node, and_node, or_node, is_forall, free, node_sort}
@@ -30,6 +30,19 @@ use Rattle.step_truth.specs.Nodes.{Fillable, Filling, Knowing, NodeFilled, IsWor
 use Rattle.step_truth.specs.LaneLaws.{lane_row}
 use Rattle.step_truth.specs.TruthLaws.{any_same, exists_true, forall_true, parts_true}
 use Rattle.step_truth.specs.FillLaws.{rows_known, rows_kept}
+
+-- ---- so many rows of n fit a width
+pub whole_row : (n width row : ℕ) → row < width / n → row * n + n ≤ width
+whole_row n width row h =
+    let next : row + 1 ≤ width / n = omega arith in
+    let q : (row + 1) * n ≤ width / n * n = mul-le-mul_right n next in
+    omega (arith, q, add-mul row 1 n, one-mul n, div-mul-le_self width n)
+
+pub div_mono : (a b n : ℕ) → 0 < n → a ≤ b → a / n ≤ b / n
+div_mono a b n o h = (le-div_iff_mul-le o).1 (omega (arith, div-mul-le_self a n))
+
+pub whole_rows : (n width row : ℕ) → 0 < n → row ≡ width / n → (row * n ≤ width) × (width < row * n + n)
+whole_rows n width row o e = rw e (div-mul-le_self width n, omega (arith, mod-eq-sub-div-mul width n, mod-lt width o))
 
 -- ---- how many atoms a node has
 pub wide_forall : (n : ℕ) (t : Tree) → node_kind t ≡ 0 → node_width n t ≡ rows_of n t * n

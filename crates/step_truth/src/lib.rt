@@ -32,11 +32,9 @@ fn gather(state: &[u64], start: usize, stride: usize, n: usize) -> u64
     ensures { (x : ℕ) → x < n → digit result x ≡ bit state.now (start + x * stride) }
 {
     let mut w: u64 = 0;
-    let mut x: usize = 0;
-    while x < n {
+    for x in 0..n {
         let b = problem_table::test(state, start + x * stride);
         w = with_bit(w, x, b);
-        x += 1;
     }
     w
 }
@@ -70,12 +68,10 @@ fn parts_word(
     ensures { (x : ℕ) → x < lanes → digit result x ≡ turned flip (any (λ i. turned flip (bit state.now (part_at table.now (with_value (value_in env) level x) (first + i)))) (from zero many)) }
 {
     let mut acc: u64 = 0;
-    let mut i: usize = 0;
-    while i < many {
+    for i in 0..many {
         let a = step_prove::along(table, first + i, level, env);
         let w = window(state, a.start, a.stride, lanes);
         acc |= bits::turn(w, flip);
-        i += 1;
     }
     bits::turn(acc, flip)
 }
@@ -86,10 +82,8 @@ fn members_word(table: &[usize], range: usize, count: usize) -> u64
     ensures { (k : ℕ) → k < 64 → digit result k ≡ is_in k (members_in table.now range count) }
 {
     let mut w: u64 = 0;
-    let mut i: usize = 0;
-    while i < count {
+    for i in 0..count {
         w |= bits::single(table[range + i]);
-        i += 1;
     }
     w
 }
@@ -121,14 +115,12 @@ fn fill_chains(state: &mut [u64], table: &[usize], v: problem_table::NodeLine, w
     let n = table[0];
     let members = members_word(table, v.range, v.count);
     let mut digits = [0usize; 4];
-    let mut j: usize = 0;
-    while j + n <= width {
+    for row in 0..width / n {
         let under = step_prove::under_at(table, v, &digits);
         let w = window(state, under.start, under.stride, n);
         let own = chain(w, members);
-        bits::store(state, v.atoms + j, n, own);
+        bits::store(state, v.atoms + row * n, n, own);
         step_prove::advance(n, v.width, &mut digits);
-        j += n;
     }
 }
 
@@ -140,14 +132,12 @@ fn fill_exists(state: &mut [u64], table: &[usize], v: problem_table::NodeLine, w
     let n = table[0];
     let members = members_word(table, v.range, v.count);
     let mut digits = [0usize; 4];
-    let mut row: usize = 0;
-    while row < width {
+    for row in 0..width {
         let under = step_prove::under_at(table, v, &digits);
         let w = window(state, under.start, under.stride, n);
         let own = meets(w, members);
         bits::store(state, v.atoms + row, 1, own);
         step_prove::advance(n, v.width, &mut digits);
-        row += 1;
     }
 }
 
@@ -170,12 +160,11 @@ fn fill_parts(state: &mut [u64], table: &[usize], v: problem_table::NodeLine, wi
     let levels = v.levels;
     let level = levels[v.width - 1];
     let flip = v.kind == 2;
-    let mut row: usize = 0;
-    while row + n <= width {
+    for turn in 0..width / n {
+        let row = turn * n;
         let env = rows::values_of(n, levels, v.width, row);
         let own = parts_word(state, table, v.first, v.many, env, level, n, flip);
         bits::store(state, v.atoms + row, n, own);
-        row += n;
     }
 }
 
@@ -208,11 +197,9 @@ pub fn fill_nodes(state: &mut [u64], table: &[usize], first: usize, past: usize)
 {
     let last = problem_table::node_line(table, past);
     let mut end = last.atoms;
-    let mut v = past;
-    while first < v {
-        v -= 1;
+    for v in (first..past).rev() {
         let line = problem_table::node_line(table, v);
-        let width = step_prove::gap(line.atoms, end);
+        let width = end.saturating_sub(line.atoms);
         fill_node(state, table, v, width);
         end = line.atoms;
     }

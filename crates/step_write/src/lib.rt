@@ -18,14 +18,12 @@ fn next_word(words: &[u64], j: usize, past: usize) -> usize
     requires { (j ≤ past) × (past ≤ 2 ^ 50) }
     ensures { (j ≤ result) × (result ≤ past) × ((m : ℕ) → j ≤ m → m < result → get_or words.now m 0 ≡ 0) }
 {
-    let mut k = j;
-    while k < past {
+    for k in j..past {
         if bits::word_at(words, k) != 0 {
             return k;
         }
-        k += 1;
     }
-    k
+    past
 }
 
 // A bit from bit i on, `past` at the most, before which none from bit i on is set. Words without a bit are passed over whole.
@@ -35,11 +33,11 @@ pub fn next_set(words: &[u64], i: usize, past: usize) -> usize
 {
     let here = bits::cut(words, i, 64);
     if here != 0 {
-        return bits::least(i + bits::lowest(here), past);
+        return (i + bits::lowest(here)).min(past);
     }
     let j = next_word(words, i / 64 + 1, past / 64 + 1);
     let there = bits::word_at(words, j);
-    bits::least(64 * j + bits::lowest(there), past)
+    (64 * j + bits::lowest(there)).min(past)
 }
 
 // The step of one atom of an `exists`, `and` or `or`, if that is true: the first of its `tries` actions whose needs all hold.
@@ -75,9 +73,7 @@ fn digits_at(n: usize, width: usize, row: usize, digits: &mut [usize])
     ensures { Within n digits.new × Rest width digits.new × Digits n width row digits.new }
 {
     let mut rest = row;
-    let mut i = width;
-    while 0 < i {
-        i -= 1;
+    for i in (0..width).rev() {
         digits[i] = rest % n;
         rest = rest / n;
     }
@@ -126,6 +122,7 @@ fn write_rows(
     digits_at(n, v.width, start, &mut digits);
     let mut k = at;
     let mut row = start;
+    // no count: a row may be far behind the one before it
     while row < end {
         k = write_row(state, steps, k, table, v, m, &digits, row);
         let next = next_row(state, v.atoms, row, end);
@@ -163,11 +160,9 @@ fn write_chain(
         → Wrote steps.old at (row_numbers p F node (from j (size_in table.now))) steps.new result) }
 {
     let mut k = at;
-    let mut i: usize = 0;
-    while i < v.count {
+    for i in 0..v.count {
         let z = table[v.range + i];
         k = write_link(state, steps, k, v.atoms + (j + z), action + i);
-        i += 1;
     }
     k
 }
@@ -192,14 +187,9 @@ fn write_chains(
     if n < v.count {
         return at;
     }
-    let first = start / n;
     let mut k = at;
-    let mut j = first * n;
-    let mut action = v.acts + first * v.count;
-    while j + n <= end {
-        k = write_chain(state, steps, k, table, v, j, action);
-        j += n;
-        action += v.count;
+    for row in start / n..end / n {
+        k = write_chain(state, steps, k, table, v, row * n, v.acts + row * v.count);
     }
     k
 }
@@ -241,11 +231,9 @@ pub fn write_nodes(
     let last = problem_table::node_line(table, past);
     let mut end = last.atoms;
     let mut k = at;
-    let mut v = past;
-    while 0 < v {
-        v -= 1;
+    for v in (0..past).rev() {
         let line = problem_table::node_line(table, v);
-        let width = step_prove::gap(line.atoms, end);
+        let width = end.saturating_sub(line.atoms);
         k = write_node(state, steps, k, table, v, 0, width);
         end = line.atoms;
     }

@@ -42,19 +42,14 @@
 // each under its name. Any other line ends the run, and is written, with all that follows it, under a word that says so.
 #![tactic(auto)]
 
-ghost use Rattle.std.specs.Prelude.{◌≤◌, ◌<◌, length};
-ghost use Rattle.io.specs.Counts.{IsPrefixLen};
-ghost use Rattle.open_tries.specs.Begun.{ReadyToTry};
+ghost use Rattle.std.specs.Prelude.{◌≤◌};
 
-use call_action::Asked;
-use call_sizes::{Sizing, Tallied};
-use call_window::Windowed;
+use call_tries::Try;
 use open_case::Reply;
-use open_tries::{Begun, Verdict};
 use problem_table::{Act, ChoiceAct, TupleAct};
-use read_text::Found;
+use refusal::Refusal;
+use sha2::{Digest, Sha256};
 use std::fs::File;
-use std::io::Read;
 
 // A script has no more bytes; what follows them is not read.
 const SCRIPT: usize = 1048576;
@@ -75,40 +70,24 @@ const PRINTED: usize = 64;
 
 const TEXT: usize = 131072;
 
-// A number of the script, or none.
+// The texts whose lines follow a line of their name: the question, the site, and steps or picks.
 #[derive(Clone, Copy)]
-enum Value {
-    Is(u64),
-    Bad,
+enum Sheet {
+    Question,
+    Site,
+    Text,
 }
 
-// A part of the script.
+// What stands for the calls below, and the text whose lines are being read, with the place that they begin at.
 #[derive(Clone, Copy)]
-struct Span {
-    from: usize,
-    to: usize,
-}
-
-// The numbers behind a call's word, 0 where there are fewer.
-#[derive(Clone, Copy)]
-struct Given {
-    a: usize,
-    b: usize,
-    c: usize,
-}
-
-// What stands for the calls below, and the text whose lines are being read, from `from` on: 1 for the question, 2 for the site, 3 for steps
-// or picks, 0 for none, 4 once a line was none of a script.
-#[derive(Clone, Copy)]
-struct Script {
-    open: u32,
-    from: usize,
-    question: Span,
-    site: Span,
-    text: Span,
-    lent: Span,
-    ends: Span,
-    lists: Span,
+struct Script<'a> {
+    question: &'a [u8],
+    site: &'a [u8],
+    text: &'a [u8],
+    lent: &'a [u8],
+    ends: &'a [u8],
+    lists: &'a [u8],
+    open: Option<(Sheet, usize)>,
 }
 
 // ---- what is written
@@ -126,161 +105,68 @@ fn show_two(number: u32, place: usize) {
     show(place as u64);
 }
 
+fn show_refusal(e: Refusal) {
+    show_two(e.cause.number(), e.place);
+}
+
 fn show_reply(r: Reply) {
     match r {
-        Reply::Accepted(count) => show_two(0, count),
-        Reply::Refused(k, place) => show_two(k, place),
+        Ok(count) => show_two(0, count),
+        Err(e) => show_refusal(e),
     }
 }
 
 // Half a byte in hexadecimal.
-fn show_half(k: u64) {
-    if k < 10 {
-        let digit = [48 + k as u8];
-        io::write_all(1, &digit);
-        return;
-    }
-    let letter = [87 + (k % 16) as u8];
-    io::write_all(1, &letter);
+fn show_half(k: u8) {
+    let digit = if k < 10 { 48 + k } else { 87 + k % 16 };
+    io::write_all(1, &[digit]);
 }
 
-// A number of 32 bits in hexadecimal, all eight digits of it.
-fn show_hex(k: u64) {
-    let mut i: u64 = 0;
-    while i < 8 {
-        show_half((k >> (28 - 4 * i)) % 16);
-        i += 1;
+// Bytes in hexadecimal.
+fn show_bytes(out: &[u8]) {
+    for b in out {
+        show_half(*b / 16);
+        show_half(*b % 16);
     }
 }
 
 // A text by its digest.
 fn show_digest(text: &[u8]) {
-    let x = test_digest::sha256(text);
     io::write_all(1, b" sha256:");
-    show_hex(x.a);
-    show_hex(x.b);
-    show_hex(x.c);
-    show_hex(x.d);
-    show_hex(x.e);
-    show_hex(x.f);
-    show_hex(x.g);
-    show_hex(x.h);
+    show_bytes(&Sha256::digest(text));
 }
 
-// A decimal number behind what stands before place `at`, after a space unless it is the first.
-fn put(text: &mut [u8], at: usize, k: u64) -> usize {
-    if at == 0 {
-        return print_bytes::decimal(text, at, k as usize);
+// The digest of numbers in decimal, a space between any two.
+fn digest_words<T: Copy + Into<u64>>(w: &[T]) {
+    let mut text = [0u8; TEXT];
+    let mut end: usize = 0;
+    for k in w {
+        if 0 < end {
+            end = print_bytes::byte(&mut text, end, 32);
+        }
+        let number: u64 = (*k).into();
+        end = print_bytes::decimal(&mut text, end, number as usize);
     }
-    let next = print_bytes::byte(text, at, 32);
-    print_bytes::decimal(text, next, k as usize)
-}
-
-fn put_step(text: &mut [u8], at: usize, k: u32) -> usize {
-    put(text, at, k as u64)
-}
-
-// The part of a table of bytes before a place.
-fn show_before(text: &[u8], end: usize) {
-    if end <= text.len() {
-        show_digest(&text[..end]);
+    if let Some(said) = text.get(..end) {
+        show_digest(said);
     }
 }
 
-// Words after the name of their buffer, many of them by the digest of their numbers.
-fn show_words(what: &[u8], w: &[u64]) {
+// Words or steps after the name of their buffer, many of them by the digest of their numbers.
+fn show_words<T: Copy + Into<u64>>(what: &[u8], w: &[T]) {
     io::write_all(1, what);
     if PRINTED < w.len() {
         digest_words(w);
         return;
     }
-    let mut i = 0;
-    while i < w.len() {
-        show(w[i]);
-        i += 1;
-    }
-}
-
-// Words in decimal.
-fn put_words(text: &mut [u8], w: &[u64]) -> usize {
-    let mut at = 0;
-    let mut i = 0;
-    while i < w.len() {
-        at = put(text, at, w[i]);
-        i += 1;
-    }
-    at
-}
-
-fn digest_words(w: &[u64]) {
-    let mut text = [0u8; TEXT];
-    let at = put_words(&mut text, w);
-    show_before(&text, at);
-}
-
-fn show_step(k: u32) {
-    show(k as u64);
-}
-
-// Steps, or where layers end, after their name.
-fn show_steps(what: &[u8], w: &[u32]) {
-    io::write_all(1, what);
-    if PRINTED < w.len() {
-        digest_steps(w);
-        return;
-    }
-    let mut i = 0;
-    while i < w.len() {
-        show_step(w[i]);
-        i += 1;
-    }
-}
-
-// Steps in decimal.
-fn put_steps(text: &mut [u8], w: &[u32]) -> usize {
-    let mut at = 0;
-    let mut i = 0;
-    while i < w.len() {
-        at = put_step(text, at, w[i]);
-        i += 1;
-    }
-    at
-}
-
-fn digest_steps(w: &[u32]) {
-    let mut text = [0u8; TEXT];
-    let at = put_steps(&mut text, w);
-    show_before(&text, at);
-}
-
-// Whether all bytes are sevens, as they began.
-fn are_sevens(out: &[u8]) -> bool {
-    let mut i = 0;
-    while i < out.len() {
-        if out[i] != 7 {
-            return false;
-        }
-        i += 1;
-    }
-    true
-}
-
-fn show_byte(k: u8) {
-    show_half(k as u64 / 16);
-    show_half(k as u64 % 16);
-}
-
-fn show_bytes(out: &[u8]) {
-    let mut i = 0;
-    while i < out.len() {
-        show_byte(out[i]);
-        i += 1;
+    for k in w {
+        show((*k).into());
     }
 }
 
 // Bytes of a call that was refused: whether they are as they were.
 fn show_kept_bytes(out: &[u8]) {
-    if are_sevens(out) {
+    if out.iter().all(|b| *b == 7) {
         io::write_all(1, b" kept");
         return;
     }
@@ -303,8 +189,8 @@ fn show_refused(out: &[u8]) {
 fn show_page(r: Reply, out: &[u8]) {
     io::write_all(1, b" out");
     match r {
-        Reply::Accepted(_) => show_digest(out),
-        Reply::Refused(_, _) => show_refused(out),
+        Ok(_) => show_digest(out),
+        Err(_) => show_refused(out),
     }
 }
 
@@ -313,8 +199,8 @@ fn show_text(r: Reply, out: &[u8]) {
     show_reply(r);
     io::write_all(1, b" out");
     match r {
-        Reply::Accepted(_) => show_digest(out),
-        Reply::Refused(_, _) => show_kept_bytes(out),
+        Ok(_) => show_digest(out),
+        Err(_) => show_kept_bytes(out),
     }
 }
 
@@ -367,15 +253,15 @@ fn show_action(a: Act) {
 
 fn sizes(question: &[u8], site: &[u8]) -> bool {
     match call_sizes::sizes(question, site) {
-        Sizing::Sized(s) => {
+        Ok(s) => {
             show_two(0, 0);
             show(s.elements as u64);
             show(s.atoms as u64);
             show(s.actions as u64);
             show(s.bound as u64);
         }
-        Sizing::Refused(k, place) => {
-            show_two(k, place);
+        Err(e) => {
+            show_refusal(e);
             io::write_all(1, b" 7 7 7 7");
         }
     }
@@ -384,1009 +270,478 @@ fn sizes(question: &[u8], site: &[u8]) -> bool {
 
 fn tally(question: &[u8], site: &[u8]) -> bool {
     match call_sizes::tally(question, site) {
-        Tallied::Counted(t) => {
+        Ok(t) => {
             io::write_all(1, b"=");
             show(t.nodes as u64);
             show(t.atoms as u64);
             show(t.actions as u64);
         }
-        Tallied::Refused(k, place) => show_two(k, place),
+        Err(e) => show_refusal(e),
     }
     true
 }
 
 fn action(question: &[u8], site: &[u8], k: usize) -> bool {
     match call_action::action(question, site, k) {
-        Asked::Action(a) => show_action(a),
-        Asked::Refused(fault, place) => show_two(fault, place),
+        Ok(a) => show_action(a),
+        Err(e) => show_refusal(e),
     }
-    true
-}
-
-fn allowances_into(question: &[u8], site: &[u8], words: &mut [u64]) {
-    let r = call_allowance::allowances(question, site, words);
-    show_reply(r);
-    show_words(b" allowances", words);
-}
-
-fn allowances(question: &[u8], site: &[u8], room: usize) -> bool {
-    let mut words = [7u64; PICKS];
-    if PICKS < room {
-        return false;
-    }
-    allowances_into(question, site, &mut words[..room]);
-    true
-}
-
-fn find_into(question: &[u8], site: &[u8], picks: &mut [u64]) {
-    let r = call_find::find(question, site, picks);
-    show_reply(r);
-    show_words(b" picks", picks);
-}
-
-fn find(question: &[u8], site: &[u8], many: usize) -> bool {
-    let mut picks = [7u64; PICKS];
-    if PICKS < many {
-        return false;
-    }
-    find_into(question, site, &mut picks[..many]);
     true
 }
 
 fn window(question: &[u8], site: &[u8]) -> bool {
     match call_window::window(question, site) {
-        Windowed::Window(lower, upper) => {
+        Ok(w) => {
             show_two(0, 0);
-            show(lower as u64);
-            show(upper as u64);
+            show(w.lower as u64);
+            show(w.upper as u64);
         }
-        Windowed::Refused(k, place) => {
-            show_two(k, place);
+        Err(e) => {
+            show_refusal(e);
             io::write_all(1, b" 7 7");
         }
     }
     true
 }
 
-fn monotone(question: &[u8], site: &[u8]) -> bool {
-    let r = call_monotone::monotone(question, site);
-    show_reply(r);
-    true
-}
+// ---- Calls by what they are lent, with so much of each buffer. Each says whether there is as much.
 
-// ---- calls on a text of steps or picks
-
-fn check_text_into(question: &[u8], site: &[u8], text: &[u8], state: &mut [u64]) {
-    let r = call_check::check_text(question, site, text, state);
-    show_reply(r);
-    show_words(b" state", state);
-}
-
-fn check_text(question: &[u8], site: &[u8], text: &[u8], room: usize) -> bool {
-    let mut state = [7u64; STATE];
-    if STATE < room {
+// A call that is lent one buffer of words, whose name is written before them.
+fn on_words<F: FnOnce(&mut [u64]) -> Reply>(
+    what: &[u8],
+    buffer: &mut [u64],
+    room: usize,
+    call: F,
+) -> bool
+    requires { F.IsAlwaysCallable call }
+{
+    let Some(words) = buffer.get_mut(..room) else {
         return false;
-    }
-    check_text_into(question, site, text, &mut state[..room]);
+    };
+    show_reply(call(words));
+    show_words(what, words);
     true
 }
 
-fn picks_text_into(
-    question: &[u8],
-    site: &[u8],
-    text: &[u8],
-    picks: &mut [u64],
-    state: &mut [u64],
-) {
-    let r = call_read::picks_text(question, site, text, picks, state);
-    show_reply(r);
-    show_words(b" picks", picks);
-    show_words(b" state", state);
+// A call that is lent words for a state.
+fn on_state<F: FnOnce(&mut [u64]) -> Reply>(room: usize, call: F) -> bool
+    requires { F.IsAlwaysCallable call }
+{
+    on_words(b" state", &mut [7; STATE], room, call)
 }
 
-fn picks_text(question: &[u8], site: &[u8], text: &[u8], many: usize, room: usize) -> bool {
+// A call that is lent words for picks.
+fn on_picks<F: FnOnce(&mut [u64]) -> Reply>(what: &[u8], room: usize, call: F) -> bool
+    requires { F.IsAlwaysCallable call }
+{
+    on_words(what, &mut [7; PICKS], room, call)
+}
+
+// A call that reads picks, and is lent words for them and for a state.
+fn on_reading<F: FnOnce(&mut [u64], &mut [u64]) -> Reply>(n: [usize; 4], call: F) -> bool
+    requires { F.IsAlwaysCallable call }
+{
     let mut picks = [7u64; PICKS];
     let mut state = [7u64; STATE];
-    if PICKS < many {
+    let Some(picks) = picks.get_mut(..n[0]) else {
         return false;
-    }
-    if STATE < room {
+    };
+    let Some(state) = state.get_mut(..n[1]) else {
         return false;
-    }
-    picks_text_into(question, site, text, &mut picks[..many], &mut state[..room]);
-    true
-}
-
-fn build_text_into(
-    question: &[u8],
-    site: &[u8],
-    text: &[u8],
-    state: &mut [u64],
-    steps: &mut [u32],
-) {
-    let r = call_build::build_text(question, site, text, state, steps);
-    show_reply(r);
-    show_words(b" state", state);
-    show_steps(b" steps", steps);
-}
-
-fn build_text(question: &[u8], site: &[u8], text: &[u8], room: usize, many: usize) -> bool {
-    let mut state = [7u64; STATE];
-    let mut steps = [7u32; STEPS];
-    if STATE < room {
-        return false;
-    }
-    if STEPS < many {
-        return false;
-    }
-    build_text_into(question, site, text, &mut state[..room], &mut steps[..many]);
-    true
-}
-
-fn judge_text(question: &[u8], site: &[u8], text: &[u8]) -> bool {
-    let r = call_judge::judge_text(question, site, text);
-    show_reply(r);
-    true
-}
-
-fn page_text_into(
-    question: &[u8],
-    site: &[u8],
-    text: &[u8],
-    page: usize,
-    state: &mut [u64],
-    out: &mut [u8],
-) {
-    let r = call_page::page_text(question, site, text, page, state, out);
-    show_reply(r);
-    show_words(b" state", state);
-    show_page(r, out);
-}
-
-fn page_text(
-    question: &[u8],
-    site: &[u8],
-    text: &[u8],
-    page: usize,
-    room: usize,
-    bytes: usize,
-) -> bool {
-    let mut state = [7u64; STATE];
-    let mut out = [7u8; PAGE];
-    if STATE < room {
-        return false;
-    }
-    if PAGE < bytes {
-        return false;
-    }
-    page_text_into(
-        question,
-        site,
-        text,
-        page,
-        &mut state[..room],
-        &mut out[..bytes],
-    );
-    true
-}
-
-// ---- calls on lent steps and picks
-
-fn check_into(question: &[u8], site: &[u8], list: &[u32], state: &mut [u64]) {
-    let r = call_check::check_lent(question, site, list, state);
-    show_reply(r);
-    show_words(b" state", state);
-}
-
-fn check(question: &[u8], site: &[u8], list: &[u32], room: usize) -> bool {
-    let mut state = [7u64; STATE];
-    if STATE < room {
-        return false;
-    }
-    check_into(question, site, list, &mut state[..room]);
-    true
-}
-
-fn picks_into(question: &[u8], site: &[u8], list: &[u32], picks: &mut [u64], state: &mut [u64]) {
-    let r = call_read::picks_lent(question, site, list, picks, state);
-    show_reply(r);
+    };
+    show_reply(call(picks, state));
     show_words(b" picks", picks);
     show_words(b" state", state);
-}
-
-fn picks(question: &[u8], site: &[u8], list: &[u32], many: usize, room: usize) -> bool {
-    let mut picks = [7u64; PICKS];
-    let mut state = [7u64; STATE];
-    if PICKS < many {
-        return false;
-    }
-    if STATE < room {
-        return false;
-    }
-    picks_into(question, site, list, &mut picks[..many], &mut state[..room]);
     true
 }
 
-fn build_into(question: &[u8], site: &[u8], lent: &[u64], state: &mut [u64], steps: &mut [u32]) {
-    let r = call_build::build_lent(question, site, lent, state, steps);
-    show_reply(r);
-    show_words(b" state", state);
-    show_steps(b" steps", steps);
-}
-
-fn build(question: &[u8], site: &[u8], lent: &[u64], room: usize, many: usize) -> bool {
+// A call that builds steps, and is lent room for a state and for them.
+fn on_steps<F: FnOnce(&mut [u64], &mut [u32]) -> Reply>(n: [usize; 4], call: F) -> bool
+    requires { F.IsAlwaysCallable call }
+{
     let mut state = [7u64; STATE];
     let mut steps = [7u32; STEPS];
-    if STATE < room {
+    let Some(state) = state.get_mut(..n[0]) else {
         return false;
-    }
-    if STEPS < many {
+    };
+    let Some(steps) = steps.get_mut(..n[1]) else {
         return false;
-    }
-    build_into(question, site, lent, &mut state[..room], &mut steps[..many]);
-    true
-}
-
-fn judge(question: &[u8], site: &[u8], picks: &[u64]) -> bool {
-    let r = call_judge::judge_lent(question, site, picks);
-    show_reply(r);
-    true
-}
-
-fn page_into(
-    question: &[u8],
-    site: &[u8],
-    list: &[u32],
-    page: usize,
-    state: &mut [u64],
-    out: &mut [u8],
-) {
-    let r = call_page::page_lent(question, site, list, page, state, out);
-    show_reply(r);
+    };
+    show_reply(call(state, steps));
     show_words(b" state", state);
-    show_page(r, out);
-}
-
-fn page(
-    question: &[u8],
-    site: &[u8],
-    list: &[u32],
-    page: usize,
-    room: usize,
-    bytes: usize,
-) -> bool {
-    let mut state = [7u64; STATE];
-    let mut out = [7u8; PAGE];
-    if STATE < room {
-        return false;
-    }
-    if PAGE < bytes {
-        return false;
-    }
-    page_into(
-        question,
-        site,
-        list,
-        page,
-        &mut state[..room],
-        &mut out[..bytes],
-    );
+    show_words(b" steps", steps);
     true
 }
 
-// ---- layers of steps
-
-fn show_layers(r: Reply, state: &[u64], steps: &[u32], ends: &[u32]) {
-    show_reply(r);
-    show_words(b" state", state);
-    show_steps(b" steps", steps);
-    show_steps(b" ends", ends);
-}
-
-fn build_layers_text_into(
-    question: &[u8],
-    site: &[u8],
-    text: &[u8],
-    state: &mut [u64],
-    steps: &mut [u32],
-    ends: &mut [u32],
-) {
-    let r = call_build_layers::build_layers_text(question, site, text, state, steps, ends);
-    show_layers(r, state, steps, ends);
-}
-
-fn build_layers_text(question: &[u8], site: &[u8], text: &[u8], n: Given) -> bool {
-    let room = n.a;
-    let many = n.b;
-    let layers = n.c;
+// A call that builds layers, and is lent room for a state, for their steps and for where they end.
+fn on_layers<F: FnOnce(&mut [u64], &mut [u32], &mut [u32]) -> Reply>(n: [usize; 4], call: F) -> bool
+    requires { F.IsAlwaysCallable call }
+{
     let mut state = [7u64; STATE];
     let mut steps = [7u32; STEPS];
     let mut ends = [7u32; NUMBERS];
-    if STATE < room {
+    let Some(state) = state.get_mut(..n[0]) else {
         return false;
-    }
-    if STEPS < many {
+    };
+    let Some(steps) = steps.get_mut(..n[1]) else {
         return false;
-    }
-    if NUMBERS < layers {
+    };
+    let Some(ends) = ends.get_mut(..n[2]) else {
         return false;
-    }
-    build_layers_text_into(
-        question,
-        site,
-        text,
-        &mut state[..room],
-        &mut steps[..many],
-        &mut ends[..layers],
-    );
+    };
+    show_reply(call(state, steps, ends));
+    show_words(b" state", state);
+    show_words(b" steps", steps);
+    show_words(b" ends", ends);
     true
 }
 
-fn build_layers_into(
-    question: &[u8],
-    site: &[u8],
-    lent: &[u64],
-    state: &mut [u64],
-    steps: &mut [u32],
-    ends: &mut [u32],
-) {
-    let r = call_build_layers::build_layers_lent(question, site, lent, state, steps, ends);
-    show_layers(r, state, steps, ends);
-}
-
-fn build_layers(question: &[u8], site: &[u8], lent: &[u64], n: Given) -> bool {
-    let room = n.a;
-    let many = n.b;
-    let layers = n.c;
+// A call that writes a page, and is lent room for a state and for its bytes; the page's own number comes first.
+fn on_page<F: FnOnce(&mut [u64], &mut [u8]) -> Reply>(n: [usize; 4], call: F) -> bool
+    requires { F.IsAlwaysCallable call }
+{
     let mut state = [7u64; STATE];
-    let mut steps = [7u32; STEPS];
-    let mut ends = [7u32; NUMBERS];
-    if STATE < room {
+    let mut out = [7u8; PAGE];
+    let Some(state) = state.get_mut(..n[1]) else {
         return false;
-    }
-    if STEPS < many {
+    };
+    let Some(out) = out.get_mut(..n[2]) else {
         return false;
-    }
-    if NUMBERS < layers {
-        return false;
-    }
-    build_layers_into(
-        question,
-        site,
-        lent,
-        &mut state[..room],
-        &mut steps[..many],
-        &mut ends[..layers],
-    );
-    true
-}
-
-fn check_layers_into(question: &[u8], site: &[u8], list: &[u32], ends: &[u32], state: &mut [u64]) {
-    let r = call_check_layers::check_layers(question, site, list, ends, state);
+    };
+    let r = call(state, out);
     show_reply(r);
     show_words(b" state", state);
-}
-
-fn check_layers(question: &[u8], site: &[u8], list: &[u32], ends: &[u32], room: usize) -> bool {
-    let mut state = [7u64; STATE];
-    if STATE < room {
-        return false;
-    }
-    check_layers_into(question, site, list, ends, &mut state[..room]);
+    show_page(r, out);
     true
 }
 
-// ---- PDDL
-
-fn domain_into(question: &[u8], site: &[u8], out: &mut [u8]) {
-    let r = call_domain::domain(question, site, out);
-    show_text(r, out);
-}
-
-fn domain(question: &[u8], site: &[u8], room: usize) -> bool {
+// A call that writes a text of PDDL, and is lent room for its bytes.
+fn on_text<F: FnOnce(&mut [u8]) -> Reply>(room: usize, call: F) -> bool
+    requires { F.IsAlwaysCallable call }
+{
     let mut out = [7u8; PAGE];
-    if PAGE < room {
+    let Some(out) = out.get_mut(..room) else {
         return false;
-    }
-    domain_into(question, site, &mut out[..room]);
-    true
-}
-
-fn instance_into(question: &[u8], site: &[u8], out: &mut [u8]) {
-    let r = call_instance::instance(question, site, out);
+    };
+    let r = call(out);
     show_text(r, out);
-}
-
-fn instance(question: &[u8], site: &[u8], room: usize) -> bool {
-    let mut out = [7u8; PAGE];
-    if PAGE < room {
-        return false;
-    }
-    instance_into(question, site, &mut out[..room]);
     true
 }
 
-fn plan_text_into(question: &[u8], site: &[u8], text: &[u8], out: &mut [u8]) {
-    let r = call_plan::plan_text(question, site, text, out);
-    show_text(r, out);
-}
-
-fn plan_text(question: &[u8], site: &[u8], text: &[u8], room: usize) -> bool {
-    let mut out = [7u8; PAGE];
-    if PAGE < room {
-        return false;
-    }
-    plan_text_into(question, site, text, &mut out[..room]);
-    true
-}
-
-fn plan_into(question: &[u8], site: &[u8], list: &[u32], out: &mut [u8]) {
-    let r = call_plan::plan_lent(question, site, list, out);
-    show_text(r, out);
-}
-
-fn plan(question: &[u8], site: &[u8], list: &[u32], room: usize) -> bool {
-    let mut out = [7u8; PAGE];
-    if PAGE < room {
-        return false;
-    }
-    plan_into(question, site, list, &mut out[..room]);
-    true
-}
-
-fn read_plan_into(question: &[u8], site: &[u8], text: &[u8], steps: &mut [u32]) {
-    let r = call_plan_read::read_plan(question, site, text, steps);
-    show_reply(r);
-    show_steps(b" steps", steps);
-}
-
+// The steps of a plan that is a text.
 fn read_plan(question: &[u8], site: &[u8], text: &[u8], many: usize) -> bool {
     let mut steps = [7u32; STEPS];
-    if STEPS < many {
+    let Some(steps) = steps.get_mut(..many) else {
         return false;
-    }
-    read_plan_into(question, site, text, &mut steps[..many]);
+    };
+    show_reply(call_plan_read::read_plan(question, site, text, steps));
+    show_words(b" steps", steps);
     true
 }
 
-// ---- many lists of steps: what `call_tries::try_lists` does, but for the walk over lent records, which a program could lend only from
-// a function that is itself walked by hand
-
-fn show_try(first: u32, count: u32, v: Verdict) {
-    show(first as u64);
-    show(count as u64);
-    show(v.number as u64);
-    show(v.place);
-}
-
-// The records as they were: number and place are 7.
-fn show_kept(lists: &[u32]) {
-    let mut i = 0;
-    while i < lists.len() / 2 {
-        let v = Verdict {
-            number: 7,
-            place: 7,
-        };
-        show_try(lists[2 * i], lists[2 * i + 1], v);
-        i += 1;
-    }
-}
-
-// The records after their lists were tried.
-fn show_tried(table: &[usize], state: &[u64], words: usize, steps: &[u32], lists: &[u32])
-    requires { ReadyToTry table.now state.now words }
-{
-    let mut i = 0;
-    while i < lists.len() / 2 {
-        let first = lists[2 * i];
-        let count = lists[2 * i + 1];
-        let v = open_tries::try_list(table, state, words, steps, first, count);
-        show_try(first, count, v);
-        i += 1;
-    }
-}
-
-// How the case began, its records, and the state.
-fn show_lists(table: &[usize], state: &[u64], c: Begun, steps: &[u32], lists: &[u32])
-    requires { 0 < c.many → ReadyToTry table.now state.now c.words }
-{
-    show_two(c.number, c.place);
-    io::write_all(1, b" tries");
-    if 0 < c.many {
-        show_tried(table, state, c.words, steps, lists);
-    } else {
-        show_kept(lists);
-    }
-    show_words(b" state", state);
-}
-
-fn try_lists(question: &[u8], site: &[u8], steps: &[u32], lists: &[u32], state: &mut [u64]) {
-    let mut table = [0usize; problem_table::TABLE];
-    let c = open_tries::begin(question, site, 1, &mut table, state);
-    show_lists(&table, state, c, steps, lists);
-}
-
+// Tries the lists that pairs of numbers name, whose records come in as sevens.
 fn tries(question: &[u8], site: &[u8], steps: &[u32], lists: &[u32], room: usize) -> bool {
     let mut state = [7u64; STATE];
-    if STATE < room {
+    let mut tries = [Try {
+        first: 0,
+        length: 0,
+        number: 7,
+        place: 7,
+    }; NUMBERS];
+    let Some(state) = state.get_mut(..room) else {
         return false;
+    };
+    let Some(tries) = tries.get_mut(..lists.len() / 2) else {
+        return false;
+    };
+    for (record, list) in tries.iter_mut().zip(lists.chunks_exact(2)) {
+        record.first = list[0];
+        record.length = list[1];
     }
-    try_lists(question, site, steps, lists, &mut state[..room]);
+    let r = call_tries::try_lists(question, site, steps, tries, state);
+    show_two(r.number, r.place);
+    io::write_all(1, b" tries");
+    for record in tries {
+        show(record.first as u64);
+        show(record.length as u64);
+        show(record.number as u64);
+        show(record.place);
+    }
+    show_words(b" state", state);
     true
 }
 
 // ---- the script
 
-// The part of a text that a span names, nothing where it does not lie in it.
-fn part(s: &[u8], p: Span) -> &[u8] {
-    let from = p.from;
-    let to = p.to;
-    if s.len() < to {
-        return &s[..0];
-    }
-    if to < from {
-        return &s[..0];
-    }
-    &s[from..to]
-}
-
 // The number that a word writes.
-fn decimal(w: &[u8]) -> Value {
-    if w.len() == 0 {
-        return Value::Bad;
+fn decimal(word: &[u8]) -> Option<u64> {
+    if word.is_empty() {
+        return None;
     }
     let mut v: u64 = 0;
-    let mut i = 0;
-    while i < w.len() {
-        let c = w[i];
-        if c < 48 {
-            return Value::Bad;
+    for c in word {
+        if !c.is_ascii_digit() {
+            return None;
         }
-        if 57 < c {
-            return Value::Bad;
-        }
-        let d = (c - 48) as u64;
-        if (18446744073709551615 - d) / 10 < v {
-            return Value::Bad;
-        }
-        v = v * 10 + d;
-        i += 1;
+        v = v.checked_mul(10)?.checked_add((*c - 48) as u64)?;
     }
-    Value::Is(v)
+    Some(v)
 }
 
-// Puts the numbers of a line from place `from` on, each after a space, into `out`, and gives how many they are.
-fn numbers(line: &[u8], from: usize, out: &mut [u64]) -> Found {
-    let mut at = from;
+// The numbers of the rest of a line, a space before each, at the front of `out`: none where one is no number, or where there are too many.
+fn numbers<'a, T: TryFrom<u64> + Copy>(rest: &[u8], out: &'a mut [T]) -> Option<&'a [T]>
+where
+    T::Error: Drop,
+{
     let mut n = 0;
-    while at < line.len() {
-        let end = read_text::find(line, at + 1, line.len(), 32);
-        let p = Span {
-            from: at + 1,
-            to: end,
-        };
-        let v = decimal(part(line, p));
-        match v {
-            Value::Bad => return Found::Nowhere,
-            Value::Is(k) => {
-                if out.len() <= n {
-                    return Found::Nowhere;
-                }
-                out[n] = k;
-                n += 1;
-            }
+    for word in rest.split(|b| *b == 32).skip(1) {
+        let k = T::try_from(decimal(word)?).ok()?;
+        *out.get_mut(n)? = k;
+        n += 1;
+    }
+    out.get(..n)
+}
+
+// Makes the call that a word names, if it is one on a case alone.
+fn call_on_case(word: &[u8], question: &[u8], site: &[u8], n: [usize; 4]) -> bool {
+    match word {
+        b"sizes" => sizes(question, site),
+        b"tally" => tally(question, site),
+        b"action" => action(question, site, n[0]),
+        b"allowances" => on_picks(b" allowances", n[0], |words| {
+            call_allowance::allowances(question, site, words)
+        }),
+        b"find" => on_picks(
+            b" picks",
+            n[0],
+            |picks| call_find::find(question, site, picks),
+        ),
+        b"monotone" => {
+            show_reply(call_monotone::monotone(question, site));
+            true
         }
-        at = end;
+        b"window" => window(question, site),
+        b"pddl_domain" => on_text(n[0], |out| call_domain::domain(question, site, out)),
+        b"pddl_instance" => on_text(n[0], |out| call_instance::instance(question, site, out)),
+        _ => false,
     }
-    Found::At(n)
 }
 
-// The numbers as steps, where each is a number of 32 bits.
-fn narrow(from: &[u64], out: &mut [u32]) -> bool {
-    let mut i = 0;
-    while i < from.len() {
-        let k = from[i];
-        if out.len() <= i {
-            return false;
+// The same for calls on a text.
+fn call_on_text(word: &[u8], question: &[u8], site: &[u8], text: &[u8], n: [usize; 4]) -> bool {
+    match word {
+        b"check_text" => on_state(n[0], |state| {
+            call_check::check_text(question, site, text, state)
+        }),
+        b"picks_text" => on_reading(n, |picks, state| {
+            call_read::picks_text(question, site, text, picks, state)
+        }),
+        b"build_text" => on_steps(n, |state, steps| {
+            call_build::build_text(question, site, text, state, steps)
+        }),
+        b"judge_text" => {
+            show_reply(call_judge::judge_text(question, site, text));
+            true
         }
-        if 4294967295 < k {
-            return false;
-        }
-        out[i] = k as u32;
-        i += 1;
+        b"page_text" => on_page(n, |state, out| {
+            call_page::page_text(question, site, text, n[0], state, out)
+        }),
+        b"build_layers_text" => on_layers(n, |state, steps, ends| {
+            call_build_layers::build_layers_text(question, site, text, state, steps, ends)
+        }),
+        b"pddl_plan_text" => on_text(n[0], |out| call_plan::plan_text(question, site, text, out)),
+        b"pddl_read" => read_plan(question, site, text, n[0]),
+        _ => false,
     }
-    true
-}
-
-// Puts numbers of 32 bits of a line into `out`, and gives how many they are.
-fn small_numbers(line: &[u8], out: &mut [u32]) -> Found {
-    let mut read = [0u64; NUMBERS];
-    let Found::At(n) = numbers(line, 0, &mut read) else {
-        return Found::Nowhere;
-    };
-    if NUMBERS < n {
-        return Found::Nowhere;
-    }
-    if narrow(&read[..n], out) {
-        return Found::At(n);
-    }
-    Found::Nowhere
-}
-
-// Checks layers: the lent steps, and where they end.
-fn call_on_layers(s: &[u8], t: Script, question: &[u8], site: &[u8], room: usize) -> bool {
-    let mut steps = [0u32; NUMBERS];
-    let mut ends = [0u32; NUMBERS];
-    let Found::At(n) = small_numbers(part(s, t.lent), &mut steps) else {
-        return false;
-    };
-    let Found::At(m) = small_numbers(part(s, t.ends), &mut ends) else {
-        return false;
-    };
-    if NUMBERS < n {
-        return false;
-    }
-    if NUMBERS < m {
-        return false;
-    }
-    check_layers(question, site, &steps[..n], &ends[..m], room)
-}
-
-// Makes the call that the first w bytes of a line name, if it is one on a case alone.
-fn call_on_case(line: &[u8], w: usize, question: &[u8], site: &[u8], n: Given) -> bool {
-    if read_text::word(line, 0, w, b"sizes") {
-        return sizes(question, site);
-    }
-    if read_text::word(line, 0, w, b"tally") {
-        return tally(question, site);
-    }
-    if read_text::word(line, 0, w, b"action") {
-        return action(question, site, n.a);
-    }
-    if read_text::word(line, 0, w, b"allowances") {
-        return allowances(question, site, n.a);
-    }
-    if read_text::word(line, 0, w, b"find") {
-        return find(question, site, n.a);
-    }
-    if read_text::word(line, 0, w, b"monotone") {
-        return monotone(question, site);
-    }
-    if read_text::word(line, 0, w, b"window") {
-        return window(question, site);
-    }
-    if read_text::word(line, 0, w, b"pddl_domain") {
-        return domain(question, site, n.a);
-    }
-    if read_text::word(line, 0, w, b"pddl_instance") {
-        return instance(question, site, n.a);
-    }
-    false
-}
-
-// The same for calls on a text, with up to two numbers.
-fn call_on_text(
-    line: &[u8],
-    w: usize,
-    question: &[u8],
-    site: &[u8],
-    text: &[u8],
-    n: Given,
-) -> bool {
-    if read_text::word(line, 0, w, b"check_text") {
-        return check_text(question, site, text, n.a);
-    }
-    if read_text::word(line, 0, w, b"picks_text") {
-        return picks_text(question, site, text, n.a, n.b);
-    }
-    if read_text::word(line, 0, w, b"build_text") {
-        return build_text(question, site, text, n.a, n.b);
-    }
-    if read_text::word(line, 0, w, b"judge_text") {
-        return judge_text(question, site, text);
-    }
-    if read_text::word(line, 0, w, b"page_text") {
-        return page_text(question, site, text, n.a, n.b, n.c);
-    }
-    if read_text::word(line, 0, w, b"build_layers_text") {
-        return build_layers_text(question, site, text, n);
-    }
-    if read_text::word(line, 0, w, b"pddl_plan_text") {
-        return plan_text(question, site, text, n.a);
-    }
-    if read_text::word(line, 0, w, b"pddl_read") {
-        return read_plan(question, site, text, n.a);
-    }
-    false
 }
 
 // The same for calls on lent picks.
-fn call_on_picks(
-    line: &[u8],
-    w: usize,
-    question: &[u8],
-    site: &[u8],
-    lent: &[u64],
-    n: Given,
-) -> bool {
-    if read_text::word(line, 0, w, b"build") {
-        return build(question, site, lent, n.a, n.b);
+fn call_on_picks(word: &[u8], question: &[u8], site: &[u8], lent: &[u64], n: [usize; 4]) -> bool {
+    match word {
+        b"build" => on_steps(n, |state, steps| {
+            call_build::build_lent(question, site, lent, state, steps)
+        }),
+        b"judge" => {
+            show_reply(call_judge::judge_lent(question, site, lent));
+            true
+        }
+        b"build_layers" => on_layers(n, |state, steps, ends| {
+            call_build_layers::build_layers_lent(question, site, lent, state, steps, ends)
+        }),
+        _ => false,
     }
-    if read_text::word(line, 0, w, b"judge") {
-        return judge(question, site, lent);
-    }
-    if read_text::word(line, 0, w, b"build_layers") {
-        return build_layers(question, site, lent, n);
-    }
-    false
 }
 
-// The same for calls on lent steps, and lists of them.
+// The same for calls on lent steps, with where their layers end and with lists of them.
 fn call_on_steps(
-    line: &[u8],
-    w: usize,
+    word: &[u8],
     question: &[u8],
     site: &[u8],
     steps: &[u32],
+    ends: &[u32],
     lists: &[u32],
-    n: Given,
+    n: [usize; 4],
 ) -> bool {
-    if read_text::word(line, 0, w, b"check") {
-        return check(question, site, steps, n.a);
+    match word {
+        b"check" => on_state(n[0], |state| {
+            call_check::check_lent(question, site, steps, state)
+        }),
+        b"check_layers" => on_state(n[0], |state| {
+            call_check_layers::check_layers(question, site, steps, ends, state)
+        }),
+        b"picks" => on_reading(n, |picks, state| {
+            call_read::picks_lent(question, site, steps, picks, state)
+        }),
+        b"tries" => tries(question, site, steps, lists, n[0]),
+        b"page" => on_page(n, |state, out| {
+            call_page::page_lent(question, site, steps, n[0], state, out)
+        }),
+        b"pddl_plan" => on_text(n[0], |out| call_plan::plan_lent(question, site, steps, out)),
+        _ => false,
     }
-    if read_text::word(line, 0, w, b"picks") {
-        return picks(question, site, steps, n.a, n.b);
-    }
-    if read_text::word(line, 0, w, b"tries") {
-        return tries(question, site, steps, lists, n.a);
-    }
-    if read_text::word(line, 0, w, b"page") {
-        return page(question, site, steps, n.a, n.b, n.c);
-    }
-    if read_text::word(line, 0, w, b"pddl_plan") {
-        return plan(question, site, steps, n.a);
-    }
-    false
 }
 
-// Makes the call of a line with what is lent as numbers.
-fn make_lent(
-    line: &[u8],
-    w: usize,
-    question: &[u8],
-    site: &[u8],
-    lent: &[u64],
-    lists: &[u64],
-    given: Given,
-) -> bool {
-    if call_on_picks(line, w, question, site, lent, given) {
-        return true;
-    }
-    let mut steps = [0u32; NUMBERS];
-    let mut pairs = [0u32; NUMBERS];
-    let count = lent.len();
-    let m = lists.len();
-    if NUMBERS < count {
-        return false;
-    }
-    if NUMBERS < m {
-        return false;
-    }
-    if !narrow(lent, &mut steps) {
-        return false;
-    }
-    if !narrow(lists, &mut pairs) {
-        return false;
-    }
-    call_on_steps(line, w, question, site, &steps[..count], &pairs[..m], given)
-}
-
-// Reads what is lent off the script, and makes the call of a line.
-fn make_with(
-    s: &[u8],
-    t: Script,
-    line: &[u8],
-    w: usize,
-    question: &[u8],
-    site: &[u8],
-    given: Given,
-) -> bool {
+// Makes the call of a line on what is lent as picks.
+fn make_with_picks(t: Script, word: &[u8], n: [usize; 4]) -> bool {
     let mut lent = [0u64; NUMBERS];
-    let mut lists = [0u64; NUMBERS];
-    let Found::At(n) = numbers(part(s, t.lent), 0, &mut lent) else {
+    let Some(lent) = numbers(t.lent, &mut lent) else {
         return false;
     };
-    let Found::At(m) = numbers(part(s, t.lists), 0, &mut lists) else {
-        return false;
-    };
-    if NUMBERS < n {
-        return false;
-    }
-    if NUMBERS < m {
-        return false;
-    }
-    make_lent(line, w, question, site, &lent[..n], &lists[..m], given)
+    call_on_picks(word, t.question, t.site, lent, n)
 }
 
-// Makes the call of a line, whose first word ends at w.
-fn make(s: &[u8], t: Script, line: &[u8], w: usize) -> bool {
-    let mut read = [0u64; 4];
-    let Found::At(_) = numbers(line, w, &mut read) else {
+// Makes the call of a line on what is lent as steps.
+fn make_with_steps(t: Script, word: &[u8], n: [usize; 4]) -> bool {
+    let mut steps = [0u32; NUMBERS];
+    let mut ends = [0u32; NUMBERS];
+    let mut lists = [0u32; NUMBERS];
+    let Some(steps) = numbers(t.lent, &mut steps) else {
         return false;
     };
-    let given = Given {
-        a: read[0] as usize,
-        b: read[1] as usize,
-        c: read[2] as usize,
+    let Some(ends) = numbers(t.ends, &mut ends) else {
+        return false;
     };
-    let question = part(s, t.question);
-    let site = part(s, t.site);
-    if call_on_case(line, w, question, site, given) {
-        return true;
-    }
-    if call_on_text(line, w, question, site, part(s, t.text), given) {
-        return true;
-    }
-    if read_text::word(line, 0, w, b"check_layers") {
-        return call_on_layers(s, t, question, site, given.a);
-    }
-    make_with(s, t, line, w, question, site, given)
+    let Some(lists) = numbers(t.lists, &mut lists) else {
+        return false;
+    };
+    call_on_steps(word, t.question, t.site, steps, ends, lists, n)
 }
 
-// A line below `question`, `site` or `text`.
-fn read_on(line: &[u8], at: usize, mut t: Script) -> Script {
-    if read_text::word(line, 0, line.len(), b".") {
-        let sheet = Span {
-            from: t.from,
-            to: at,
-        };
-        if t.open == 1 {
-            t.question = sheet;
+// Makes the call of a line: its word, and its numbers, of which no call has more than three.
+fn make(t: Script, word: &[u8], rest: &[u8]) -> bool {
+    let mut n = [0usize; 4];
+    if numbers(rest, &mut n).is_none() {
+        return false;
+    }
+    call_on_case(word, t.question, t.site, n)
+        || call_on_text(word, t.question, t.site, t.text, n)
+        || make_with_picks(t, word, n)
+        || make_with_steps(t, word, n)
+}
+
+// A line below `question`, `site` or `text`, from `at` on: the text whose lines begin at `from` ends before a line with a full stop.
+fn read_on<'a>(
+    s: &'a [u8],
+    line: &[u8],
+    at: usize,
+    sheet: Sheet,
+    from: usize,
+    t: Script<'a>,
+) -> Script<'a> {
+    if !matches!(line, b".") {
+        return t;
+    }
+    let text = s.get(from..at).unwrap_or(b"");
+    let ended = Script { open: None, ..t };
+    match sheet {
+        Sheet::Question => Script {
+            question: text,
+            ..ended
+        },
+        Sheet::Site => Script {
+            site: text,
+            ..ended
+        },
+        Sheet::Text => Script { text, ..ended },
+    }
+}
+
+// A line outside of texts, after which the next begins at `next`: none where it is no line of a script.
+fn follow<'a>(line: &'a [u8], next: usize, t: Script<'a>) -> Option<Script<'a>> {
+    let end = line.iter().position(|b| *b == 32).unwrap_or(line.len());
+    let (word, rest) = line.split_at(end);
+    match word {
+        b"" | b"#" => {}
+        b"question" => {
+            let open = Some((Sheet::Question, next));
+            return Some(Script { open, ..t });
         }
-        if t.open == 2 {
-            t.site = sheet;
+        b"site" => {
+            let open = Some((Sheet::Site, next));
+            return Some(Script { open, ..t });
         }
-        if t.open == 3 {
-            t.text = sheet;
+        b"text" => {
+            let open = Some((Sheet::Text, next));
+            return Some(Script { open, ..t });
         }
-        t.open = 0;
+        b"lent" => return Some(Script { lent: rest, ..t }),
+        b"ends" => return Some(Script { ends: rest, ..t }),
+        b"lists" => return Some(Script { lists: rest, ..t }),
+        _ => {
+            if !make(t, word, rest) {
+                return None;
+            }
+            io::write_all(1, b"\n");
+        }
     }
-    t
-}
-
-// The number of the text that a word of w bytes begins, 0 where it begins none.
-fn sheet_named(line: &[u8], w: usize) -> u32 {
-    if read_text::word(line, 0, w, b"question") {
-        return 1;
-    }
-    if read_text::word(line, 0, w, b"site") {
-        return 2;
-    }
-    if read_text::word(line, 0, w, b"text") {
-        return 3;
-    }
-    0
-}
-
-// Whether a line says nothing: it is empty, or a comment.
-fn says_nothing(line: &[u8], w: usize) -> bool {
-    if w == 0 {
-        return true;
-    }
-    read_text::word(line, 0, w, b"#")
-}
-
-// A line outside of texts.
-fn follow(s: &[u8], at: usize, end: usize, mut t: Script) -> Script
-    requires { (at ≤ end) × (end < length s.now) }
-{
-    let here = Span { from: at, to: end };
-    let line = part(s, here);
-    let w = read_text::find(line, 0, line.len(), 32);
-    if says_nothing(line, w) {
-        return t;
-    }
-    let sheet = sheet_named(line, w);
-    if sheet != 0 {
-        t.open = sheet;
-        t.from = end + 1;
-        return t;
-    }
-    if read_text::word(line, 0, w, b"lent") {
-        let lent = Span {
-            from: at + 4,
-            to: end,
-        };
-        t.lent = lent;
-        return t;
-    }
-    if read_text::word(line, 0, w, b"ends") {
-        let ends = Span {
-            from: at + 4,
-            to: end,
-        };
-        t.ends = ends;
-        return t;
-    }
-    if read_text::word(line, 0, w, b"lists") {
-        let lists = Span {
-            from: at + 5,
-            to: end,
-        };
-        t.lists = lists;
-        return t;
-    }
-    if make(s, t, line, w) {
-        io::write_all(1, b"\n");
-        return t;
-    }
-    t.open = 4;
-    t
-}
-
-// A line of a script.
-fn turn(s: &[u8], at: usize, end: usize, t: Script) -> Script
-    requires { (at ≤ end) × (end < length s.now) }
-{
-    if t.open == 0 {
-        return follow(s, at, end, t);
-    }
-    let here = Span { from: at, to: end };
-    read_on(part(s, here), at, t)
+    Some(t)
 }
 
 // Follows a script, and gives where a line stands that is none.
-fn run(s: &[u8]) -> Found {
-    let nothing = Span { from: 0, to: 0 };
+fn run(s: &[u8]) -> Option<usize> {
     let mut t = Script {
-        open: 0,
-        from: 0,
-        question: nothing,
-        site: nothing,
-        text: nothing,
-        lent: nothing,
-        ends: nothing,
-        lists: nothing,
+        question: b"",
+        site: b"",
+        text: b"",
+        lent: b"",
+        ends: b"",
+        lists: b"",
+        open: None,
     };
     let mut at = 0;
+    // No `for`: the next line begins where this one ends.
     while at < s.len() {
-        let end = read_text::find(s, at, s.len(), 10);
-        if s.len() <= end {
-            return Found::At(at);
+        let rest = &s[at..];
+        let Some(length) = rest.iter().position(|b| *b == 10) else {
+            return Some(at);
+        };
+        let line = &rest[..length];
+        let next = at + length + 1;
+        if let Some((sheet, from)) = t.open {
+            t = read_on(s, line, at, sheet, from, t);
+        } else if let Some(followed) = follow(line, next, t) {
+            t = followed;
+        } else {
+            return Some(at);
         }
-        t = turn(s, at, end, t);
-        if t.open == 4 {
-            return Found::At(at);
-        }
-        at = end + 1;
+        at = next;
     }
-    if t.open == 0 {
-        return Found::Nowhere;
-    }
-    Found::At(t.from)
+    t.open.map(|(_, from)| from)
 }
 
 // Reads the script, follows it, and writes what is none of it.
 fn follow_input(script: &mut [u8]) {
     let count = io::read_full(0, script);
-    if script.len() < count {
+    let Some(script) = script.get(..count) else {
         return;
-    }
-    let r = run(&script[..count]);
-    match r {
-        Found::Nowhere => {}
-        Found::At(at) => {
-            let rest = Span {
-                from: at,
-                to: count,
-            };
-            io::write_all(1, b"This is no line of a script: ");
-            io::write_all(1, part(script, rest));
-        }
+    };
+    if let Some(rest) = run(script).and_then(|at| script.get(at..)) {
+        io::write_all(1, b"This is no line of a script: ");
+        io::write_all(1, rest);
     }
 }
 
-// An array so long is lent whole, and only here as a slice.
+// The check runs out of stack where so long an array is made and cut in one function, so it is lent whole to this one.
 fn run_script(script: &mut [u8; SCRIPT]) {
     follow_input(script);
 }
@@ -1397,13 +752,10 @@ fn run_script(script: &mut [u8; SCRIPT]) {
 fn digit(b: u8) -> usize
     ensures { result ≤ 9 }
 {
-    if b < 48 {
-        return 0;
+    if b.is_ascii_digit() {
+        return (b - 48) as usize;
     }
-    if 57 < b {
-        return 0;
-    }
-    (b - 48) as usize
+    0
 }
 
 // The length in a header.
@@ -1421,76 +773,44 @@ fn write_desk(name: &[u8], input: &[u8]) {
     io::write_all(1, &out[..length]);
 }
 
-// Reads until `buf` is full, the file ends or a read fails, and tells how many bytes it put at the start of `buf`.
-fn read_full(file: &mut File, buf: &mut [u8]) -> usize
-    ensures { IsPrefixLen result buf.new }
-{
-    let mut done = 0;
-    while done < buf.len() {
-        let more = read_more(file, buf, done);
-        if more == done {
-            return done;
-        }
-        done = more;
-    }
-    done
-}
-
-// One read, to the bytes from `at` on: how many bytes are in then.
-fn read_more(file: &mut File, buf: &mut [u8], at: usize) -> usize
-    requires { at ≤ length buf.old }
-    ensures { (at ≤ result) × (result ≤ length buf.old) }
-{
-    let rest = &mut buf[at..];
-    match file.read(rest) {
-        Ok(more) => at + more,
-        Err(_) => at,
-    }
-}
-
 // Reads an input that has as many bytes as `input`, writes its reply, and tells whether it was there.
-fn desk(file: &mut File, name: &[u8], input: &mut [u8]) -> bool {
-    if read_full(file, input) < input.len() {
-        return false;
+fn desk(file: &mut File, name: &[u8], input: &mut [u8]) -> std::io::Result<bool> {
+    if read_input::read_input(file, input)? < input.len() {
+        return Ok(false);
     }
     write_desk(name, input);
-    true
+    Ok(true)
 }
 
 // Reads one header (a name of four bytes, a tab, five digits for the length of the input, a line's end) and its input, and tells whether
 // there was one.
-fn run_input(file: &mut File) -> bool {
+fn run_input(file: &mut File) -> std::io::Result<bool> {
     let mut head = [0u8; 11];
-    if read_full(file, &mut head) < 11 {
-        return false;
+    if read_input::read_input(file, &mut head)? < 11 {
+        return Ok(false);
     }
-    let count = length_in(head);
     let mut input = [0u8; 100000];
-    if 100000 < count {
-        return false;
+    match input.get_mut(..length_in(head)) {
+        Some(input) => desk(file, &head[..4], input),
+        None => Ok(false),
     }
-    desk(file, &head[..4], &mut input[..count])
 }
 
-// A proved loop has to end: there are no more than 10,000 names of four digits.
-fn run_inputs(file: &mut File) {
-    let mut left: usize = 10000;
-    while 0 < left {
-        if !run_input(file) {
-            return;
+// There are no more than 10,000 names of four digits.
+fn run_inputs(file: &mut File) -> std::io::Result<()> {
+    for _ in 0..10000 {
+        if !run_input(file)? {
+            break;
         }
-        left -= 1;
     }
+    Ok(())
 }
 
 fn main(rt: HostRuntime) -> std::io::Result<()> {
     let mut script = [0u8; SCRIPT];
     run_script(&mut script);
     match File::open(&rt, "inputs") {
-        Ok(mut file) => {
-            run_inputs(&mut file);
-            Ok(())
-        }
+        Ok(mut file) => run_inputs(&mut file),
         Err(error) => eprintln!(rt; "inputs: {error}"),
     }
 }

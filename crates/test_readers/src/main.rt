@@ -2,7 +2,7 @@
 // number and place.
 #![tactic(auto)]
 
-use read_sheets::Answer;
+use refusal::Refusal;
 
 // A number after a space.
 fn number(n: usize) {
@@ -10,46 +10,51 @@ fn number(n: usize) {
     io::print_decimal(1, n as u64);
 }
 
-fn answer(what: &[u8], a: Answer) {
+// The number and the place of a refusal.
+fn refused(e: Refusal) {
+    number(e.cause.number() as usize);
+    number(e.place);
+}
+
+fn answer(what: &[u8], a: Result<usize, Refusal>) {
     io::write_all(1, what);
     match a {
-        Answer::Done(n) => {
+        Ok(n) => {
             io::write_all(1, b" ok");
             number(n);
         }
-        Answer::Refused(k, place) => {
-            number(k as usize);
-            number(place);
-        }
+        Err(e) => refused(e),
     }
     io::write_all(1, b"\n");
 }
 
 fn ask(s: &[u8]) {
-    let q = read_question::question(s);
     io::write_all(1, b"question");
-    if q.fault == 0 {
-        io::write_all(1, b" ok");
-        number(q.sig.rels);
-        number(q.sig.chosen);
-        number(q.rule.from);
-        number(q.rule.to);
-    } else {
-        number(q.fault as usize);
-        number(q.place);
+    match read_question::question(s) {
+        Ok(q) => {
+            io::write_all(1, b" ok");
+            number(q.sig.rels);
+            number(q.sig.chosen);
+            number(q.rule.from);
+            number(q.rule.to);
+        }
+        Err(e) => refused(e),
     }
     io::write_all(1, b"\n");
 }
 
-// A site of a question.
+// A site of a question that is accepted.
 fn read_site_of(text: &[u8], s: &[u8]) {
-    let q = read_question::question(text);
-    let g = q.sig;
     let mut labels = [0usize; read_sheets::LABELS];
     let mut members = [0u64; read_names::TYPES];
     let mut table = [0u64; 32768];
-    let a = read_sheets::site(text, g, s, 64, &mut labels, &mut members, &mut table);
-    answer(b"site", a);
+    match read_question::question(text) {
+        Ok(q) => {
+            let a = read_sheets::site(text, q.sig, s, 64, &mut labels, &mut members, &mut table);
+            answer(b"site", a);
+        }
+        Err(e) => answer(b"question", Err(e)),
+    }
 }
 
 // ... with D, E, T and F.
@@ -73,14 +78,14 @@ fn read_picks(s: &[u8]) {
     let site = b"size\t2\nlabel\t1\tB\n";
     let mut labels = [0usize; read_sheets::LABELS];
     let mut facts = [0u64; 512];
-    let o = read_sheets::read_filed(text, site, 16, &mut labels, &mut facts);
-    if o.fault != 0 {
-        answer(b"site", Answer::Refused(o.fault, o.place));
-        return;
+    match read_sheets::read_filed(text, site, 16, &mut labels, &mut facts) {
+        Ok(o) => {
+            let mut table = [0u64; 16384];
+            let a = read_sheets::picks(text, o.sig, s, o.n, site, &labels, &mut table);
+            answer(b"picks", a);
+        }
+        Err(e) => answer(b"site", Err(e)),
     }
-    let mut table = [0u64; 16384];
-    let a = read_sheets::picks(text, o.sig, s, o.n, site, &labels, &mut table);
-    answer(b"picks", a);
 }
 
 fn read_steps(s: &[u8]) {
@@ -224,7 +229,6 @@ fn labels2() {
     read_site(b"size\t2\nlabel\t1\tA\nfact\tD\t1\nfact\tD\tA\n");
 }
 
-// Picks over two elements.
 // Types: their lines, in the rule, and their members.
 fn types1() {
     ask(b"type\tDOOR\nchoose\tT\t1\nrule\t(exists (?x:DOOR ?y) (T ?x))\n");
@@ -294,6 +298,7 @@ fn every2() {
     read_steps(b"every\tL\t1\n");
 }
 
+// Picks over two elements.
 fn picks1() {
     read_picks(b"");
     read_picks(b"pick\tT\t0\npick\tT\t1\n");
@@ -345,11 +350,9 @@ fn steps2() {
 
 // The same step on line after line.
 fn repeat(out: &mut [u8]) {
-    let line = [115u8, 116, 101, 112, 9, 48, 10];
-    let mut i = 0;
-    while i < out.len() {
-        out[i] = line[i % 7];
-        i += 1;
+    let line = b"step\t0\n";
+    for (i, b) in out.iter_mut().enumerate() {
+        *b = line[i % 7];
     }
 }
 

@@ -2,36 +2,38 @@ use borrow.Author.Rules.{rules}
 use lib.Count.{ones, ones-le}
 use Rattle.bits.proofs.Laws.{count_le, count_word}
 use native.Mathlib.Omega.{arith}
-use mathlib.Core.Path.{◌≡◌}
-use Prim.Native.Nat.{◌+◌, ◌*◌, ◌≤◌}
-use lib.ListN.{get_or}
+use mathlib.Core.Path.{◌≡◌, ap, ◌∙◌}
+use Prim.Native.Nat.{◌+◌, ◌-◌, ◌*◌, ◌<◌}
+use lib.ListN.{get_or, take, drop, length-take, length-drop}
 use Rattle.bits.specs.Table.{Words, bit, count as count_of}
 use Rattle.bits.proofs.ones.Goals as goal
+use Rattle.std.proofs.lemmas.List.{get_or-take, get_or-drop}
 
 -- the words are of 64 bits, and the word that is read has at most 64 set
-fits : (c : goal.After-shared_slice_known-1) → Words c.args.words.now
+fits : (c : goal.After-row_known-in-loop-w-1) → Words c.args.words.now
 fits c j = omega (arith, c.type_inv.words j)
 
-word_ones : (c : goal.After-shared_slice_known-1)
-    → ones (get_or c.args.words.now (c.args.from + c.loop-k.k) 0) ≤ 64
-word_ones c = ones-le 64 _ (fits c _)
+-- the word of the lent part that is read, in the table
+read : (c : goal.After-row_known-in-loop-w-1)
+    → get_or (take (c.args.from + c.args.count - c.args.from) (drop c.args.from c.args.words.now)) c.loop-w.w-index 0
+    ≡ get_or c.args.words.now (c.args.from + c.loop-w.w-index) 0
+read c =
+    let a = c.args in let l : c.loop-w.w-index < a.from + a.count - a.from = omega (arith, length-take (a.from + a.count - a.from) (drop a.from a.words.now)) in
+    get_or-take _ _ _ 0 l ∙ get_or-drop a.from a.words.now _ 0
 
-pub loop-k-init : goal.loop-k-init
+pub loop-w-init : goal.loop-w-init
 unfolding count_of
-loop-k-init c = search rules
+loop-w-init c = search rules
 
-pub overflow_cast-sum : goal.overflow_cast-sum
-overflow_cast-sum c = omega (arith, word_ones c)
+pub loop-w-preserved : goal.loop-w-preserved
+loop-w-preserved c =
+    omega (arith, ap ones (read c), count_word c.args.words.now (fits c) c.args.from c.loop-w.w-index)
 
-pub overflow_add-sum-in-loop-k : goal.overflow_add-sum-in-loop-k
-overflow_add-sum-in-loop-k c =
-    let a = c.args in
-    omega (arith, word_ones c, count_le (bit a.words.now) (64 * a.from) (64 * c.loop-k.k))
-
-pub loop-k-preserved : goal.loop-k-preserved
-loop-k-preserved c =
-    let a = c.args in
-    (omega arith, omega (arith, count_word a.words.now (fits c) a.from c.loop-k.k))
+pub overflow_add-sum : goal.overflow_add-sum
+overflow_add-sum c =
+    omega (arith, ap ones (read c), ones-le 64 _ (fits c (c.args.from + c.loop-w.w-index)), count_le (bit c.args.words.now) (64 * c.args.from) (64 * c.loop-w.w-index))
 
 pub returns : goal.returns
-returns c = let e : c.loop-k.k ≡ c.args.count = omega arith in rw e at c.loop-k.invariant.1
+returns c =
+    let t = c.args.words.now in let m = c.args.from + c.args.count - c.args.from in
+    let e : c.loop-w.w-index ≡ c.args.count = omega (arith, length-take m (drop c.args.from t), length-drop c.args.from t) in rw e at c.loop-w.invariant

@@ -1,28 +1,18 @@
 use native.Mathlib.Omega.{arith}
-use mathlib.Core.Path.{◌≡◌, refl, ◌∙◌}
+use mathlib.Core.Path.{◌≡◌}
+use Prim.Native.Nat.{◌+◌}
 use Rattle.bits.proofs.Laws.{paste_zero}
 use Rattle.bits.proofs.Stores.{paste_on, full_digit}
 use Rattle.bits.proofs.set_range.Goals as goal
 
 pub loop-k-init : goal.loop-k-init
-loop-k-init c = (omega arith, refl, λ h. paste_zero _ _ _ 0)
-
-pub store-requires : goal.store-requires
-store-requires c = (omega (arith, c.least-c.ensures), omega (arith, c.least-c.ensures))
-
-pub overflow_add-k : goal.overflow_add-k
-overflow_add-k c = omega (arith, c.least-c.ensures)
-
-pub loop-k-smaller : goal.loop-k-smaller
-loop-k-smaller c = omega (arith, c.least-c.ensures)
+loop-k-init c = (omega arith, λ h. paste_zero _ _ _ 0)
 
 pub loop-k-preserved : goal.loop-k-preserved
-loop-k-preserved c =
-    let l = c.loop-k in let w = c.store in let m = c.least-c in
-    (omega (arith, m.ensures), w.auto.words ∙ l.invariant.1, λ h. paste_on _ _ _ 0 _ _ _ (λ i u. full_digit i (omega (arith, m.ensures))) (l.invariant.2 h) (w.ensures (omega (arith, m.ensures, l.invariant.1))))
-
-pub shape_of-words : goal.shape_of-words
-shape_of-words c = c.loop-k.invariant.1
+loop-k-preserved c = (omega arith, λ h. let e : c.min-c.result ≡ 64 = omega arith in rw e at (paste_on _ _ _ 0 _ _ _ (λ i u. full_digit i (omega arith)) (c.loop-k.invariant.1 h) (c.store.ensures (omega arith))))
 
 pub returns : goal.returns
-returns c = λ h. let l = c.loop-k in let e : l.k ≡ c.args.n = omega arith in rw e at (l.invariant.2 h)
+returns c = λ h. let e : c.loop-k.k ≡ c.args.n = omega arith in rw e at (c.loop-k.invariant.1 h)
+
+pub returns-2 : goal.returns-2
+returns-2 c = λ h. let e : c.loop-k.k + c.min-c.result ≡ c.args.n = omega arith in rw e at (paste_on _ _ _ 0 _ _ _ (λ i u. full_digit i (omega arith)) (c.loop-k.invariant.1 h) (c.store.ensures (omega arith)))

@@ -1,19 +1,21 @@
 -- `call_allowance::allowances_in` meets its contract: the case is refused, or what it gives is told. Assumes nothing.
 use mathlib.Core.Path.{refl}
 use Rattle.definitions.specs.Limits.{usual}
-use Rattle.read_sheets.specs.Opening.{case_read}
+use Rattle.std.proofs.lemmas.Result.{err_from_is_err_and}
 use Rattle.call_allowance.specs.Allows.{allows_refused}
 use Rattle.call_allowance.proofs.allowances_in.Goals as goal
 
-pub returns-then-o-ne0 : goal.returns-then-o-ne0
-returns-then-o-ne0 c = allows_refused _ _ _ _ _ _ (c.read_case-o.ensures usual refl) c.if-o-ne0.true
+pub returns-in_err-o : goal.returns-in_err-o
+returns-in_err-o c =
+    let p = err_from_is_err_and c.from_residual.result c.from_residual.ensures.1 in
+    rw (p.1, p.2) (allows_refused usual _ _ _ _ (c.in_err-o.ensures usual refl))
 
 pub of_case-requires : goal.of_case-requires
 of_case-requires c =
-    let (x, e, h) = case_read _ _ _ _ _ (c.read_case-o.ensures usual refl) c.if-o-ne0.false in
+    let (x, e, h) = c.in_ok-o.ensures usual refl in
     record { case = x; facts = _; holds = h }
 
 pub returns : goal.returns
 returns c =
-    let read = c.read_case-o.ensures usual refl in
-    c.of_case.ensures _ _ read c.if-o-ne0.false
+    let read = c.in_ok-o.ensures usual refl in
+    c.of_case.ensures _ _ read

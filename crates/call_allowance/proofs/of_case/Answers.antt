@@ -11,7 +11,7 @@ use Rattle.definitions.specs.Reply.Allowance.{allowance}
 use Rattle.meaning.specs.Grounded.{good}
 use Rattle.problem_sizes.specs.Refused.{every_told}
 use Rattle.problem_of_case.specs.Grounds.{declared, rule_fine, inputs}
-use Rattle.read_sheets.specs.Opening.{case_read}
+use Rattle.std.proofs.lemmas.Result.{err_from_is_err_and}
 use Rattle.open_case.specs.Usual.{over_usual, within_usual}
 use Rattle.call_allowance.specs.Allows.{allows_over, allows_every, allows_short, allows_written}
 use Rattle.call_allowance.proofs.of_case.Goals as goal
@@ -28,26 +28,24 @@ nodes_of-t-requires c = rule_fine _ _ _ _ c.requires.holds
 pub of_tables-m-requires : goal.of_tables-m-requires
 of_tables-m-requires c = let h = c.requires.holds in (h.some_elements, h.few_elements, c.relations_of-g.ensures.0, c.nodes_of-t.ensures.fits, c.ranges_of-ranges.ensures.0)
 
-pub returns-then-k-ne0 : goal.returns-then-k-ne0
-returns-then-k-ne0 c =
-    λ site facts read z.
-    let (x, e, h) = case_read usual _ site _ facts read z in
+pub returns-in_err-within : goal.returns-in_err-within
+returns-in_err-within c =
+    let p = err_from_is_err_and c.from_residual.result c.from_residual.ensures.1 in
+    λ site facts (x, e, h).
     let T = c.of_tables-m.ensures (problem_of x) _ _ c.ranges_of-ranges.ensures.1 (inputs _ _ x facts h _ _ c.relations_of-g.ensures.1 c.nodes_of-t.ensures) in
-    allows_over usual _ site _ _ facts read z _ (over_usual x _ T _ c.usual_limits.ensures _ c.refusal-k.ensures c.if-k-ne0.true)
+    rw (p.1, p.2) (allows_over usual _ site _ _ facts (x, e, h) _ (over_usual x _ T _ c.usual_limits.ensures _ c.in_err-within.ensures))
 
 pub returns-then-m : goal.returns-then-m
 returns-then-m c =
-    λ site facts read z.
-    let (x, e, h) = case_read usual _ site _ facts read z in
+    λ site facts (x, e, h).
     let T = c.of_tables-m.ensures (problem_of x) _ _ c.ranges_of-ranges.ensures.1 (inputs _ _ x facts h _ _ c.relations_of-g.ensures.1 c.nodes_of-t.ensures) in
-    allows_every usual _ site _ _ facts read z (within_usual x _ T _ c.usual_limits.ensures _ c.refusal-k.ensures c.if-k-ne0.false) _ (every_told x _ T) c.if-m.true
+    rw c.at.ensures (allows_every usual _ site _ _ facts (x, e, h) (within_usual x _ T _ c.usual_limits.ensures c.in_ok-within.ensures) _ (every_told x _ T) c.if-m.true)
 
 pub returns-then-out-count : goal.returns-then-out-count
 returns-then-out-count c =
-    λ site facts read z.
-    let (x, e, h) = case_read usual _ site _ facts read z in
+    λ site facts (x, e, h).
     let T = c.of_tables-m.ensures (problem_of x) _ _ c.ranges_of-ranges.ensures.1 (inputs _ _ x facts h _ _ c.relations_of-g.ensures.1 c.nodes_of-t.ensures) in
-    allows_short usual _ site _ _ facts read z (within_usual x _ T _ c.usual_limits.ensures _ c.refusal-k.ensures c.if-k-ne0.false) _ (every_told x _ T) (omega arith) c.if-m.false c.if-out-count.true
+    rw c.at-then-out-count.ensures (allows_short usual _ site _ _ facts (x, e, h) (within_usual x _ T _ c.usual_limits.ensures c.in_ok-within.ensures) _ (every_told x _ T) (omega arith) c.if-m.false c.if-out-count.true)
 
 pub overflow_add-sig : goal.overflow_add-sig
 overflow_add-sig c = omega (arith, c.requires.holds.sound.rels_le)
@@ -60,9 +58,8 @@ write-requires c = let s = c.requires in let l = length-take-le c.args.o.sig.cho
 
 pub returns : goal.returns
 returns c =
-    λ site facts read z.
-    let (x, e, h) = case_read usual _ site _ facts read z in
+    λ site facts (x, e, h).
     let l = length-take-le c.args.o.sig.chosen c.args.out.now (omega (arith, c.if-out-count.false)) in
     let T = c.of_tables-m.ensures (problem_of x) _ _ c.ranges_of-ranges.ensures.1 (inputs _ _ x facts h _ _ c.relations_of-g.ensures.1 c.nodes_of-t.ensures) in
-    allows_written usual _ site _ _ facts read z (within_usual x _ T _ c.usual_limits.ensures _ c.refusal-k.ensures c.if-k-ne0.false) _ (every_told x _ T) (omega arith) c.if-m.false (omega (arith, c.if-out-count.false)) _ _
+    allows_written usual _ site _ _ facts (x, e, h) (within_usual x _ T _ c.usual_limits.ensures c.in_ok-within.ensures) _ (every_told x _ T) (omega arith) c.if-m.false (omega (arith, c.if-out-count.false)) _ _
     (λ y A i. c.write.ensures (problem_of y) _ _ _ (good y A) (inputs _ _ y facts i _ _ c.relations_of-g.ensures.1 c.nodes_of-t.ensures) ∙ ap (λ (k : ℕ). map (allowance (problem_of y)) (from (5 + c.args.o.sig.rels) k)) l) refl

@@ -1,4 +1,4 @@
-use Prim.Native.Nat.{ℕ, ◌-◌}
+use Prim.Native.Nat.{ℕ}
 use mathlib.Core.Path.{◌≡◌, refl, ap, subst, ◌∙◌}
 use native.Mathlib.Omega.{arith}
 use lib.ListN.{length, length-set}
@@ -14,25 +14,13 @@ loop-k-init c = (omega arith, refl, λ p w types g G is j h. absurd (omega arith
 pub overflow_add-first : goal.overflow_add-first
 overflow_add-first c = omega (arith, c.requires.3, c.loop-k.invariant.1)
 
-pub allowance-x-requires : goal.allowance-x-requires
-allowance-x-requires c = (c.requires.0, c.requires.1, c.requires.2)
-
-pub offset_bounds-out-k : goal.offset_bounds-out-k
-offset_bounds-out-k c = omega (arith, c.requires.3, c.loop-k.invariant.1)
-
-pub bounds-out-k : goal.bounds-out-k
-bounds-out-k c = omega arith
-
-pub overflow_add-k : goal.overflow_add-k
-overflow_add-k c = omega (arith, c.requires.3, c.loop-k.invariant.1)
-
-pub loop-k-smaller : goal.loop-k-smaller
-loop-k-smaller c = omega (arith, c.loop-k.invariant.1)
+pub allowance-moved-requires : goal.allowance-moved-requires
+allowance-moved-requires c = (c.requires.0, c.requires.1, c.requires.2)
 
 pub loop-k-preserved : goal.loop-k-preserved
 loop-k-preserved c =
-    let l = c.loop-k in let e = length-set l.out l.k c.allowance-x.result in
-    (omega arith, e ∙ l.invariant.1, shown_next c.args.n c.args.t c.args.first l.k c.allowance-x.result l.out (omega arith) c.allowance-x.ensures l.invariant.2)
+    let l = c.loop-k in let e = length-set l.out l.k c.allowance-moved.result in
+    (omega arith, e ∙ l.invariant.1, shown_next c.args.n c.args.t c.args.first l.k c.allowance-moved.result l.out (omega arith) c.allowance-moved.ensures l.invariant.2)
 
 pub shape_of-out : goal.shape_of-out
 shape_of-out c = c.loop-k.invariant.1

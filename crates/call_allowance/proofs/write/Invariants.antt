@@ -1,5 +1,5 @@
 -- `call_allowance::write` meets its contract: each turn writes the allowance of the next relation. Assumes nothing.
-use Prim.Native.Nat.{◌-◌, ◌≤◌}
+use Prim.Native.Nat.{◌≤◌}
 use mathlib.Core.Path.{◌≡◌}
 use lib.ListN.{length}
 use Rattle.call_allowance.specs.Allows.{Shown}
@@ -7,6 +7,3 @@ use Rattle.call_allowance.proofs.write.Given as goal
 
 abbrev pub invariant-loop-k : goal.invariant-loop-k
 invariant-loop-k l = (l.k ≤ length l.out) × (length l.out ≡ length l.initial.out) × Shown l.n l.t l.first l.k l.out
-
-abbrev pub decreases-loop-k : goal.decreases-loop-k
-decreases-loop-k l = length l.initial.out - l.k

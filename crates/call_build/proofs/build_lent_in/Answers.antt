@@ -1,4 +1,5 @@
 -- `call_build::build_lent_in` meets its contract: the case is refused, or steps are built from the lent words. Assumes nothing.
+use Rattle.std.proofs.lemmas.Result.{err_from_is_err_and}
 use native.Mathlib.Omega.{arith}
 use Rattle.definitions.specs.Limits.{usual}
 use Rattle.problem_table.specs.Lines.{table_length}
@@ -8,14 +9,16 @@ use Rattle.call_build.specs.Calls.{call_case, few_atoms, call_lent}
 use borrow.Author.Rules.{rules}
 use Rattle.call_build.proofs.build_lent_in.Goals as goal
 
-pub open_case-f-requires : goal.open_case-f-requires
-open_case-f-requires c = record { facts_room = c.requires; table_len = (search rules, most_zeros table_length 0) }
+pub open_case-requires : goal.open_case-requires
+open_case-requires c = record { facts_room = c.requires; table_len = (search rules, most_zeros table_length 0) }
 
-pub returns-then-f-ne0 : goal.returns-then-f-ne0
-returns-then-f-ne0 c = call_case usual _ _ _ _ _ c.open_case-f.ensures _ _ _ c.if-f-ne0.true
+pub returns-in_err-f : goal.returns-in_err-f
+returns-in_err-f c =
+    let p = err_from_is_err_and c.from_residual.result c.from_residual.ensures.1 in
+    rw (p.1, p.2) (call_case usual _ _ _ _ _ _ c.in_err-f.ensures)
 
 pub build_picks-requires : goal.build_picks-requires
-build_picks-requires c = let x = c.open_case-f.ensures in record { by_index = (_, front_ready usual _ _ _ _ _ x (omega arith) (omega arith) c.if-f-ne0.false); atoms_bound = few_atoms usual _ _ _ _ _ x c.if-f-ne0.false }
+build_picks-requires c = record { by_index = (_, front_ready usual _ _ _ _ _ c.in_ok-f.ensures (omega arith) (omega arith)); atoms_bound = few_atoms usual _ _ _ _ _ c.in_ok-f.ensures }
 
 pub returns : goal.returns
-returns c = call_lent usual _ _ _ _ _ c.open_case-f.ensures c.if-f-ne0.false (omega arith) _ _ _ _ _ _ c.build_picks.ensures
+returns c = call_lent usual _ _ _ _ _ c.in_ok-f.ensures (omega arith) _ _ _ _ _ _ c.build_picks.ensures

@@ -1,4 +1,5 @@
 -- `call_build_layers::build_picks` meets its contract. Assumes nothing.
+use Rattle.std.proofs.lemmas.Result.{err_from_is_err_and}
 use mathlib.Core.Path.{sym, ◌∙◌}
 use native.Mathlib.Omega.{arith}
 use lib.Seq.{length-take-le}
@@ -6,42 +7,43 @@ use Rattle.open_case.specs.Known.{tabled, table_is}
 use Rattle.call_build_layers.specs.Builds.{builds_over, builds_every, builds_picks, builds_state, builds_steps, builds_ends, builds_spare, builds_built}
 use Rattle.call_build_layers.proofs.build_picks.Goals as goal
 
-pub returns-then-m-ne0 : goal.returns-then-m-ne0
-returns-then-m-ne0 c =
+pub returns-in_err-m : goal.returns-in_err-m
+returns-in_err-m c =
+    let p = err_from_is_err_and c.from_residual.result c.from_residual.ensures.1 in
     record {
       fit = λ j. omega (arith, c.type_inv.picks j);
-      builds = λ L few q site given x e h u old F handed. builds_over L q site given _ _ _ x e _ _ _ h _ old F handed c.if-m-ne0.true;
+      builds = λ L few q site given x e h u old F handed. rw (p.1, p.2) (builds_over L q site given _ _ _ x e _ _ _ h _ old F handed _ c.in_err-m.was);
     }
 
 pub returns-then-f-ne0 : goal.returns-then-f-ne0
 returns-then-f-ne0 c =
     record {
       fit = λ j. omega (arith, c.type_inv.picks j);
-      builds = λ L few q site given x e h u old F handed. builds_every L q site given _ _ _ x e _ _ _ h _ old F handed c.if-m-ne0.false c.if-f-ne0.true;
+      builds = λ L few q site given x e h u old F handed. rw c.at.ensures (builds_every L q site given _ _ _ x e _ _ _ h _ old F handed _ c.in_ok-m.was c.if-f-ne0.true);
     }
 
 pub picks_length-held-requires : goal.picks_length-held-requires
-picks_length-held-requires c = let r = c.requires.by_index.1 in (tabled r.limits_are r.case _ _ r.held.grounded c.if-m-ne0.false).fits
+picks_length-held-requires c = let r = c.requires.by_index.1 in (tabled r.limits_are r.case _ _ r.held.grounded _ c.in_ok-m.was).fits
 
 pub returns-then-picks-held : goal.returns-then-picks-held
 returns-then-picks-held c =
     record {
       fit = λ j. omega (arith, c.type_inv.picks j);
       builds = λ L few q site given x e h u old F handed.
-          let k = c.picks_length-held.ensures.picks _ (tabled L x.case _ _ h.grounded c.if-m-ne0.false).is in
-          builds_picks L q site given _ _ _ x e _ _ _ h _ old F handed c.if-m-ne0.false c.if-f-ne0.false _ k c.if-picks-held.true;
+          let k = c.picks_length-held.ensures.picks _ (tabled L x.case _ _ h.grounded _ c.in_ok-m.was).is in
+          rw c.at-then-picks-held.ensures (builds_picks L q site given _ _ _ x e _ _ _ h _ old F handed _ c.in_ok-m.was c.if-f-ne0.false _ k c.if-picks-held.true);
     }
 
 pub overflow_add-words : goal.overflow_add-words
-overflow_add-words c = omega (arith, c.requires.atoms_bound c.if-m-ne0.false)
+overflow_add-words c = omega (arith, c.requires.atoms_bound _ c.in_ok-m.was)
 
 pub returns-then-state-words : goal.returns-then-state-words
 returns-then-state-words c =
     record {
       fit = λ j. omega (arith, c.type_inv.picks j);
       builds = λ L few q site given x e h u old F handed.
-          let k = c.picks_length-held.ensures.picks _ (tabled L x.case _ _ h.grounded c.if-m-ne0.false).is in
-          builds_state L q site given _ _ _ x e _ _ _ h _ old F handed c.if-m-ne0.false c.if-f-ne0.false _ k (omega (arith, c.if-picks-held.false)) c.if-state-words.true;
+          let k = c.picks_length-held.ensures.picks _ (tabled L x.case _ _ h.grounded _ c.in_ok-m.was).is in
+          rw c.at-then-state-words.ensures (builds_state L q site given _ _ _ x e _ _ _ h _ old F handed _ c.in_ok-m.was c.if-f-ne0.false _ k (omega (arith, c.if-picks-held.false)) c.if-state-words.true);
     }
 
 pub returns-then-steps-bound : goal.returns-then-steps-bound
@@ -49,8 +51,8 @@ returns-then-steps-bound c =
     record {
       fit = λ j. omega (arith, c.type_inv.picks j);
       builds = λ L few q site given x e h u old F handed.
-          let k = c.picks_length-held.ensures.picks _ (tabled L x.case _ _ h.grounded c.if-m-ne0.false).is in
-          builds_steps L q site given _ _ _ x e _ _ _ h _ old F handed c.if-m-ne0.false c.if-f-ne0.false _ k (omega (arith, c.if-picks-held.false)) (omega (arith, c.if-state-words.false)) c.if-steps-bound.true;
+          let k = c.picks_length-held.ensures.picks _ (tabled L x.case _ _ h.grounded _ c.in_ok-m.was).is in
+          rw c.at-then-steps-bound.ensures (builds_steps L q site given _ _ _ x e _ _ _ h _ old F handed _ c.in_ok-m.was c.if-f-ne0.false _ k (omega (arith, c.if-picks-held.false)) (omega (arith, c.if-state-words.false)) c.if-steps-bound.true);
     }
 
 pub returns-then-ends-upper : goal.returns-then-ends-upper
@@ -58,38 +60,38 @@ returns-then-ends-upper c =
     record {
       fit = λ j. omega (arith, c.type_inv.picks j);
       builds = λ L few q site given x e h u old F handed.
-          let k = c.picks_length-held.ensures.picks _ (tabled L x.case _ _ h.grounded c.if-m-ne0.false).is in
-          builds_ends L q site given _ _ _ x e _ _ _ h _ old F handed c.if-m-ne0.false c.if-f-ne0.false _ k (omega (arith, c.if-picks-held.false)) (omega (arith, c.if-state-words.false)) (omega (arith, c.if-steps-bound.false)) _ u c.if-ends-upper.true;
+          let k = c.picks_length-held.ensures.picks _ (tabled L x.case _ _ h.grounded _ c.in_ok-m.was).is in
+          rw c.at-then-ends-upper.ensures (builds_ends L q site given _ _ _ x e _ _ _ h _ old F handed _ c.in_ok-m.was c.if-f-ne0.false _ k (omega (arith, c.if-picks-held.false)) (omega (arith, c.if-state-words.false)) (omega (arith, c.if-steps-bound.false)) _ u c.if-ends-upper.true);
     }
 
-pub spare_word-s-requires : goal.spare_word-s-requires
-spare_word-s-requires c = let r = c.requires.by_index.1 in (tabled r.limits_are r.case _ _ r.held.grounded c.if-m-ne0.false).fits
+pub spare_word-requires : goal.spare_word-requires
+spare_word-requires c = let r = c.requires.by_index.1 in (tabled r.limits_are r.case _ _ r.held.grounded _ c.in_ok-m.was).fits
 
 pub slice_bounds-place_built-end : goal.slice_bounds-place_built-end
 slice_bounds-place_built-end c = sym (length-take-le _ _ (omega arith))
 
 pub place_built-requires : goal.place_built-requires
 place_built-requires c =
-    let r = c.requires.by_index.1 in let t = tabled r.limits_are r.case _ _ r.held.grounded c.if-m-ne0.false in
-    (table_is r.limits_are r.case _ _ r.held.grounded c.if-m-ne0.false, t.ends ∙ sym t.atoms_are, c.requires.atoms_bound c.if-m-ne0.false, omega (arith, c.if-state-words.false))
+    let r = c.requires.by_index.1 in let t = tabled r.limits_are r.case _ _ r.held.grounded _ c.in_ok-m.was in
+    (table_is r.limits_are r.case _ _ r.held.grounded _ c.in_ok-m.was, t.ends ∙ sym t.atoms_are, c.requires.atoms_bound _ c.in_ok-m.was, omega (arith, c.if-state-words.false))
 
-pub returns-in-Word : goal.returns-in-Word
-returns-in-Word c =
+pub returns-in-Some : goal.returns-in-Some
+returns-in-Some c =
     record {
       fit = λ j. omega (arith, c.type_inv.picks j);
       builds = λ L few q site given x e h u old F handed.
-          let is = (tabled L x.case _ _ h.grounded c.if-m-ne0.false).is in
-          builds_spare L q site given _ _ _ x e _ _ _ h _ old F handed c.if-m-ne0.false c.if-f-ne0.false _ (c.picks_length-held.ensures.picks _ is)
-          (omega (arith, c.if-picks-held.false)) (omega (arith, c.if-state-words.false)) (omega (arith, c.if-steps-bound.false)) _ u (omega (arith, c.if-ends-upper.false)) _ (c.spare_word-s.ensures _ is) _ c.in-Word.is;
+          let is = (tabled L x.case _ _ h.grounded _ c.in_ok-m.was).is in
+          rw c.at-in-Some.ensures (builds_spare L q site given _ _ _ x e _ _ _ h _ old F handed _ c.in_ok-m.was c.if-f-ne0.false _ (c.picks_length-held.ensures.picks _ is)
+          (omega (arith, c.if-picks-held.false)) (omega (arith, c.if-state-words.false)) (omega (arith, c.if-steps-bound.false)) _ u (omega (arith, c.if-ends-upper.false)) _ (c.spare_word.ensures _ is) _ c.in-Some.is);
     }
 
-pub returns-in-Clear : goal.returns-in-Clear
-returns-in-Clear c =
+pub returns : goal.returns
+returns c =
     record {
       fit = λ j. omega (arith, c.type_inv.picks j);
       builds = λ L few q site given x e h u old F handed.
-          let is = (tabled L x.case _ _ h.grounded c.if-m-ne0.false).is in
-          builds_built L q site given _ _ _ x e _ _ _ h _ old F handed c.if-m-ne0.false c.if-f-ne0.false _ (c.picks_length-held.ensures.picks _ is)
-          (omega (arith, c.if-picks-held.false)) (omega (arith, c.if-state-words.false)) (omega (arith, c.if-state-words.false)) _ u (omega (arith, c.if-steps-bound.false)) _ (c.spare_word-s.ensures _ is) c.in-Clear.is
+          let is = (tabled L x.case _ _ h.grounded _ c.in_ok-m.was).is in
+          builds_built L q site given _ _ _ x e _ _ _ h _ old F handed _ c.in_ok-m.was c.if-f-ne0.false _ (c.picks_length-held.ensures.picks _ is)
+          (omega (arith, c.if-picks-held.false)) (omega (arith, c.if-state-words.false)) (omega (arith, c.if-state-words.false)) _ u (omega (arith, c.if-steps-bound.false)) _ (c.spare_word.ensures _ is) c.in_default.is
           few _ _ _ _ (c.place_built.ensures x.case F);
     }

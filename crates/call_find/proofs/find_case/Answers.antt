@@ -10,7 +10,7 @@ use Rattle.problem_table.specs.Lines.{table_length}
 use Rattle.problem_sizes.specs.Refused.{every_told}
 use Rattle.problem_of_case.specs.Grounds.{declared, rule_fine, inputs}
 use Rattle.problem_relations.specs.Bare.{bare, some_relations, length_same}
-use Rattle.read_sheets.specs.Opening.{case_read}
+use Rattle.std.proofs.lemmas.Result.{err_from_is_err_and}
 use Rattle.open_case.specs.Known.{facts_held}
 use Rattle.open_case.specs.Usual.{over_usual, within_usual, counts_usual}
 use Rattle.eval_table.specs.Everywhere.{no_every}
@@ -27,19 +27,18 @@ nodes_of-t-requires c = rule_fine _ _ _ _ c.requires.holds
 pub of_tables-m-requires : goal.of_tables-m-requires
 of_tables-m-requires c = let h = c.requires.holds in (h.some_elements, h.few_elements, c.relations_of-g.ensures.0, c.nodes_of-t.ensures.fits, c.ranges_of-ranges.ensures.0)
 
-pub returns-then-k-ne0 : goal.returns-then-k-ne0
-returns-then-k-ne0 c =
-    λ site read z.
-    let x = case_read usual _ site _ _ read z in
+pub returns-in_err-within : goal.returns-in_err-within
+returns-in_err-within c =
+    let p = err_from_is_err_and c.from_residual.result c.from_residual.ensures.1 in
+    λ site x.
     let T = c.of_tables-m.ensures (problem_of x.0) _ _ c.ranges_of-ranges.ensures.1 (inputs _ _ x.0 _ x.2 _ _ c.relations_of-g.ensures.1 c.nodes_of-t.ensures) in
-    ends_over usual _ site _ _ _ read z _ (over_usual x.0 _ T _ c.usual_limits.ensures _ c.refusal-k.ensures c.if-k-ne0.true)
+    rw (p.1, p.2) (ends_over usual _ site _ _ _ x _ (over_usual x.0 _ T _ c.usual_limits.ensures _ c.in_err-within.ensures))
 
 pub returns-then-m : goal.returns-then-m
 returns-then-m c =
-    λ site read z.
-    let x = case_read usual _ site _ _ read z in
+    λ site x.
     let T = c.of_tables-m.ensures (problem_of x.0) _ _ c.ranges_of-ranges.ensures.1 (inputs _ _ x.0 _ x.2 _ _ c.relations_of-g.ensures.1 c.nodes_of-t.ensures) in
-    ends_every usual _ site _ _ _ read z (within_usual x.0 _ T _ c.usual_limits.ensures _ c.refusal-k.ensures c.if-k-ne0.false) _ (every_told x.0 _ T) c.if-m.true
+    rw c.at.ensures (ends_every usual _ site _ _ _ x (within_usual x.0 _ T _ c.usual_limits.ensures c.in_ok-within.ensures) _ (every_told x.0 _ T) c.if-m.true)
 
 pub lay_out-l-requires : goal.lay_out-l-requires
 lay_out-l-requires c = let h = c.requires.holds in (h.some_elements, h.few_elements, c.relations_of-g.ensures.0, c.nodes_of-t.ensures.fits, c.ranges_of-ranges.ensures.0)
@@ -51,18 +50,18 @@ pub fill-requires : goal.fill-requires
 fill-requires c =
     let s = c.requires in let h = s.holds in let g = c.relations_of-g.ensures in let r = c.ranges_of-ranges.ensures in let i = inputs _ _ s.case _ h _ _ g.1 c.nodes_of-t.ensures in
     let T = c.of_tables-m.ensures (problem_of s.case) _ _ r.1 i in
-    let (a, b) = counts_usual s.case _ T _ c.usual_limits.ensures _ c.refusal-k.ensures c.if-k-ne0.false in
+    let (a, b) = counts_usual s.case _ T _ c.usual_limits.ensures c.in_ok-within.ensures in
     let l = (c.lay_out-l.ensures (problem_of s.case) _ _ r.1 i).small number_limit (omega (arith, a)) (omega (arith, b)) in
     (search rules, most_zeros table_length 0, h.some_elements, h.few_elements, g.0, l, h.sound.types_le, omega (arith, h.sound.types_le, h.members_are.room), r.0, r.1)
 
 pub returns-then-picks-held : goal.returns-then-picks-held
 returns-then-picks-held c =
-    λ site read z.
-    let x = case_read usual _ site _ _ read z in let p = problem_of x.0 in
+    λ site x.
+    let p = problem_of x.0 in
     let i = inputs _ _ x.0 _ x.2 _ _ c.relations_of-g.ensures.1 c.nodes_of-t.ensures in
     let T = c.of_tables-m.ensures p _ _ c.ranges_of-ranges.ensures.1 i in
     let is = c.fill.ensures.1 p _ (some_relations x.0) i (c.lay_out-l.ensures p _ _ c.ranges_of-ranges.ensures.1 i).starts in
-    ends_short usual _ site _ _ _ read z (within_usual x.0 _ T _ c.usual_limits.ensures _ c.refusal-k.ensures c.if-k-ne0.false) _ (every_told x.0 _ T) c.if-m.false _ (c.picks_length-held.ensures.picks (bare p) is ∙ length_same p) c.if-picks-held.true
+    rw c.at-then-picks-held.ensures (ends_short usual _ site _ _ _ x (within_usual x.0 _ T _ c.usual_limits.ensures c.in_ok-within.ensures) _ (every_told x.0 _ T) c.if-m.false _ (c.picks_length-held.ensures.picks (bare p) is ∙ length_same p) c.if-picks-held.true)
 
 pub slice_bounds-fill-end-4 : goal.slice_bounds-fill-end-4
 slice_bounds-fill-end-4 c = sym c.requires.holds.members_are.room
@@ -110,15 +109,15 @@ search-requires c =
 
 pub returns : goal.returns
 returns c =
-    λ site read z.
-    let x = case_read usual _ site _ _ read z in let p = problem_of x.0 in let h = x.2 in
+    λ site x.
+    let p = problem_of x.0 in let h = x.2 in
     let i = inputs _ _ x.0 _ h _ _ c.relations_of-g.ensures.1 c.nodes_of-t.ensures in
     let T = c.of_tables-m.ensures p _ _ c.ranges_of-ranges.ensures.1 i in let told = every_told x.0 _ T in
-    let grounded = within_usual x.0 _ T _ c.usual_limits.ensures _ c.refusal-k.ensures c.if-k-ne0.false in
+    let grounded = within_usual x.0 _ T _ c.usual_limits.ensures c.in_ok-within.ensures in
     let is = c.fill.ensures.1 p _ (some_relations x.0) i (c.lay_out-l.ensures p _ _ c.ranges_of-ranges.ensures.1 i).starts in
     let q = c.picks_length-held.ensures.picks (bare p) is ∙ length_same p in
     let A = gives_if Accepted (read_case usual _ site) x.0 x.1 (case_fits usual (omega arith) _ site) in
-    ends_found usual _ site _ _ _ read z grounded _ told c.if-m.false _ q (omega (arith, c.if-picks-held.false)) _ _ (c.search.ensures x.0 (record {
+    ends_found usual _ site _ _ _ x grounded _ told c.if-m.false _ q (omega (arith, c.if-picks-held.false)) _ _ (c.search.ensures x.0 (record {
       sought = record { accepted_case = A; no_every = no_every x.0 _ told c.if-m.false; is = is };
       lines_of = record { relations = _; nodes = _; some = h.some_elements; size = h.few_elements; members = _; types = _; ranges = _; counted = c.ranges_of-ranges.ensures.1; inputs = i; fits = c.nodes_of-t.ensures.fits; lined = c.fill-2.ensures };
       facts_in = facts_held _ x.0 _ _ h;

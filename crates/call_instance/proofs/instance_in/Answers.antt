@@ -1,19 +1,21 @@
 -- `call_instance::instance_in` meets its contract. Assumes nothing.
 use borrow.Author.Rules.{rules}
-use Rattle.definitions.specs.Reply.Pddl.{instance_text}
+use Rattle.std.proofs.lemmas.Result.{err_from_is_err_and}
 use Rattle.problem_layout.specs.LaidLaws.{most_zeros}
 use Rattle.problem_table.specs.Lines.{table_length}
-use Rattle.open_pddl.specs.Texts.{writes_case}
+use Rattle.call_instance.specs.Stated.{stated_case}
 use Rattle.call_instance.proofs.instance_in.Goals as goal
 
-pub open_case-f-requires : goal.open_case-f-requires
-open_case-f-requires c = record { facts_room = c.requires; table_len = (search rules, most_zeros table_length 0) }
+pub open_case-requires : goal.open_case-requires
+open_case-requires c = record { facts_room = c.requires; table_len = (search rules, most_zeros table_length 0) }
 
-pub returns-then-f-ne0 : goal.returns-then-f-ne0
-returns-then-f-ne0 c = writes_case instance_text _ _ _ _ _ _ c.open_case-f.ensures c.if-f-ne0.true
+pub returns-in_err-f : goal.returns-in_err-f
+returns-in_err-f c =
+    let p = err_from_is_err_and c.from_residual.result c.from_residual.ensures.1 in
+    rw (p.1, p.2) (stated_case _ _ _ _ c.in_err-f.ensures)
 
 pub of_case-requires : goal.of_case-requires
-of_case-requires c = record { site = _; table = _; front = c.open_case-f.ensures; fine = c.if-f-ne0.false }
+of_case-requires c = record { site = _; table = _; front = c.in_ok-f.ensures }
 
 pub returns : goal.returns
-returns c = c.of_case.ensures _ _ c.open_case-f.ensures c.if-f-ne0.false
+returns c = c.of_case.ensures _ _ c.in_ok-f.ensures

@@ -1,15 +1,15 @@
 -- `call_instance::of_case` meets its contract. Assumes nothing.
 use borrow.Author.Rules.{rules}
 use native.Mathlib.Omega.{arith}
-use mathlib.Core.Path.{sym, ◌∙◌}
-use Rattle.definitions.specs.Reply.Pddl.{instance_text}
+use Rattle.std.proofs.lemmas.Result.{err_from_is_err_and}
 use Rattle.problem_layout.specs.LaidLaws.{most_zeros}
-use Rattle.open_pddl.specs.Texts.{writes_gate}
-use Rattle.call_instance.specs.Stated.{begun_sound, begun_declared, begun_names, begun_known, stated_short, stated_all}
+use Rattle.call_instance.specs.Stated.{begun_sound, begun_declared, begun_names, begun_known, stated_gate, stated_short, stated_all}
 use Rattle.call_instance.proofs.of_case.Goals as goal
 
-pub returns-then-no-ne0 : goal.returns-then-no-ne0
-returns-then-no-ne0 c = λ site table front z. writes_gate instance_text _ site _ _ _ table front z _ c.refusal-no.ensures c.if-no-ne0.true
+pub returns-in_err-gate : goal.returns-in_err-gate
+returns-in_err-gate c =
+    let p = err_from_is_err_and c.from_residual.result c.from_residual.ensures.1 in
+    λ site table its. rw (p.1, p.2) (stated_gate _ site _ _ _ table its _ c.in_err-gate.ensures)
 
 pub names_of-requires : goal.names_of-requires
 names_of-requires c = record { by_index = (_, begun_sound _ _ _ c.requires); names_len = (search rules, most_zeros 54 0) }
@@ -21,10 +21,10 @@ pub instance-bytes-requires : goal.instance-bytes-requires
 instance-bytes-requires c = (begun_names _ _ _ c.requires _ c.names_of.ensures, begun_known _ _ _ c.requires _ c.relations_of-g.ensures.0 c.relations_of-g.ensures.1)
 
 pub returns-then-out-bytes : goal.returns-then-out-bytes
-returns-then-out-bytes c = λ site table front z. stated_short _ site _ _ _ table front z (sym c.if-no-ne0.false ∙ c.refusal-no.ensures) _ c.names_of.ensures _ c.relations_of-g.ensures.0 c.relations_of-g.ensures.1 _ _ _ c.instance-bytes.ensures (omega arith)
+returns-then-out-bytes c = λ site table its. rw c.at.ensures (stated_short _ site _ _ _ table its _ c.in_ok-gate.ensures _ c.names_of.ensures _ c.relations_of-g.ensures.0 c.relations_of-g.ensures.1 _ _ _ c.instance-bytes.ensures (omega arith))
 
 pub instance-requires : goal.instance-requires
 instance-requires c = (begun_names _ _ _ c.requires _ c.names_of.ensures, begun_known _ _ _ c.requires _ c.relations_of-g.ensures.0 c.relations_of-g.ensures.1)
 
 pub returns : goal.returns
-returns c = λ site table front z. stated_all _ site _ _ _ table front z (sym c.if-no-ne0.false ∙ c.refusal-no.ensures) _ c.names_of.ensures _ c.relations_of-g.ensures.0 c.relations_of-g.ensures.1 _ _ _ _ _ c.instance-bytes.ensures c.instance.ensures (omega arith)
+returns c = λ site table its. stated_all _ site _ _ _ table its _ c.in_ok-gate.ensures _ c.names_of.ensures _ c.relations_of-g.ensures.0 c.relations_of-g.ensures.1 _ _ _ _ _ c.instance-bytes.ensures c.instance.ensures (omega arith)

@@ -11,6 +11,7 @@ use Rattle.problem_of_case.specs.Grounds.{declared, rule_fine, inputs}
 use Rattle.problem_relations.specs.Bare.{bare, some_relations, length_same, spare_same}
 use Rattle.open_case.specs.Usual.{over_usual, within_usual, few_usual, counts_usual}
 use Rattle.call_judge.specs.Judges.{values_are, ends_over, ends_short, ends_spare, ends_judged, asks_of}
+use Rattle.std.proofs.lemmas.Result.{err_from_is_err_and}
 use borrow.Author.Rules.{rules}
 use Rattle.call_judge.proofs.judge_case.Goals as goal
 
@@ -26,19 +27,20 @@ nodes_of-t-requires c = rule_fine _ _ _ _ c.requires.holds
 pub of_tables-m-requires : goal.of_tables-m-requires
 of_tables-m-requires c = let h = c.requires.holds in (h.some_elements, h.few_elements, c.relations_of-g.ensures.0, c.nodes_of-t.ensures.fits, c.ranges_of-ranges.ensures.0)
 
-pub returns-then-k-ne0 : goal.returns-then-k-ne0
-returns-then-k-ne0 c =
+pub returns-in_err-within : goal.returns-in_err-within
+returns-in_err-within c =
+    let p = err_from_is_err_and c.from_residual.result c.from_residual.ensures.1 in
     record {
       fit = λ j. omega (arith, c.type_inv.picks j);
       judges = λ site picks x read h A given F handed.
           let T = c.of_tables-m.ensures (problem_of x.case) _ _ c.ranges_of-ranges.ensures.1 (inputs _ _ x.case _ h _ _ c.relations_of-g.ensures.1 c.nodes_of-t.ensures) in
-          ends_over usual _ site picks x read _ given F handed _ (over_usual x.case _ T _ c.usual_limits.ensures _ c.refusal-k.ensures c.if-k-ne0.true);
+          rw (p.1, p.2) (ends_over usual _ site picks x read _ given F handed _ (over_usual x.case _ T _ c.usual_limits.ensures _ c.in_err-within.ensures));
     }
 
 pub values_of-count-requires : goal.values_of-count-requires
 values_of-count-requires c =
     let s = c.requires in let T = c.of_tables-m.ensures (problem_of s.case) _ _ c.ranges_of-ranges.ensures.1 (inputs _ _ s.case _ s.holds _ _ c.relations_of-g.ensures.1 c.nodes_of-t.ensures) in
-    omega (arith, tuples_told s.case _ T, few_usual s.case _ T _ c.usual_limits.ensures _ c.refusal-k.ensures c.if-k-ne0.false)
+    omega (arith, tuples_told s.case _ T, few_usual s.case _ T _ c.usual_limits.ensures c.in_ok-within.ensures)
 
 pub lay_out-l-requires : goal.lay_out-l-requires
 lay_out-l-requires c = let h = c.requires.holds in (h.some_elements, h.few_elements, c.relations_of-g.ensures.0, c.nodes_of-t.ensures.fits, c.ranges_of-ranges.ensures.0)
@@ -50,7 +52,7 @@ pub fill-requires : goal.fill-requires
 fill-requires c =
     let s = c.requires in let h = s.holds in let g = c.relations_of-g.ensures in let r = c.ranges_of-ranges.ensures in let i = inputs _ _ s.case _ h _ _ g.1 c.nodes_of-t.ensures in
     let T = c.of_tables-m.ensures (problem_of s.case) _ _ r.1 i in
-    let (a, b) = counts_usual s.case _ T _ c.usual_limits.ensures _ c.refusal-k.ensures c.if-k-ne0.false in
+    let (a, b) = counts_usual s.case _ T _ c.usual_limits.ensures c.in_ok-within.ensures in
     let l = (c.lay_out-l.ensures (problem_of s.case) _ _ r.1 i).small number_limit (omega (arith, a)) (omega (arith, b)) in
     (search rules, most_zeros table_length 0, h.some_elements, h.few_elements, g.0, l, h.sound.types_le, omega (arith, h.sound.types_le, h.members_are.room), r.0, r.1)
 
@@ -61,13 +63,10 @@ returns-then-picks-held c =
       judges = λ site picks x read h A given F handed.
           let p = problem_of x.case in
           let i = inputs _ _ x.case _ h _ _ c.relations_of-g.ensures.1 c.nodes_of-t.ensures in
-          let grounded = within_usual x.case _ (c.of_tables-m.ensures p _ _ c.ranges_of-ranges.ensures.1 i) _ c.usual_limits.ensures _ c.refusal-k.ensures c.if-k-ne0.false in
+          let grounded = within_usual x.case _ (c.of_tables-m.ensures p _ _ c.ranges_of-ranges.ensures.1 i) _ c.usual_limits.ensures c.in_ok-within.ensures in
           let is = c.fill.ensures.1 p _ (some_relations x.case) i (c.lay_out-l.ensures p _ _ c.ranges_of-ranges.ensures.1 i).starts in
-          ends_short usual _ site picks x read _ given F handed grounded _ (c.picks_length-held.ensures.picks (bare p) is ∙ length_same p) c.if-picks-held.true;
+          rw c.at.ensures (ends_short usual _ site picks x read _ given F handed grounded _ (c.picks_length-held.ensures.picks (bare p) is ∙ length_same p) c.if-picks-held.true);
     }
-
-pub slice_bounds-decide-end-in-Clear : goal.slice_bounds-decide-end-in-Clear
-slice_bounds-decide-end-in-Clear c = sym c.requires.holds.members_are.room
 
 pub decide-requires : goal.decide-requires
 decide-requires c =
@@ -87,30 +86,30 @@ decide-requires c =
       c.values_of-count.ensures.1,
     )
 
-pub returns-in-Word : goal.returns-in-Word
-returns-in-Word c =
+pub returns-in-Some : goal.returns-in-Some
+returns-in-Some c =
     record {
       fit = λ j. omega (arith, c.type_inv.picks j);
       judges = λ site picks x read h A given F handed.
           let p = problem_of x.case in
           let i = inputs _ _ x.case _ h _ _ c.relations_of-g.ensures.1 c.nodes_of-t.ensures in
-          let grounded = within_usual x.case _ (c.of_tables-m.ensures p _ _ c.ranges_of-ranges.ensures.1 i) _ c.usual_limits.ensures _ c.refusal-k.ensures c.if-k-ne0.false in
+          let grounded = within_usual x.case _ (c.of_tables-m.ensures p _ _ c.ranges_of-ranges.ensures.1 i) _ c.usual_limits.ensures c.in_ok-within.ensures in
           let is = c.fill.ensures.1 p _ (some_relations x.case) i (c.lay_out-l.ensures p _ _ c.ranges_of-ranges.ensures.1 i).starts in
-          ends_spare usual _ site picks x read _ given F handed grounded _ (c.picks_length-held.ensures.picks (bare p) is ∙ length_same p) (omega (arith, c.if-picks-held.false)) _ (c.spare_word-s.ensures (bare p) is ∙ spare_same p _) _ c.in-Word.is;
+          rw c.at-in-Some.ensures (ends_spare usual _ site picks x read _ given F handed grounded _ (c.picks_length-held.ensures.picks (bare p) is ∙ length_same p) (omega (arith, c.if-picks-held.false)) _ (c.spare_word.ensures (bare p) is ∙ spare_same p _) _ c.in-Some.is);
     }
 
-pub returns-in-Clear : goal.returns-in-Clear
-returns-in-Clear c =
+pub returns : goal.returns
+returns c =
     record {
       fit = λ j. omega (arith, c.type_inv.picks j);
       judges = λ site picks x read h A given F handed.
           let p = problem_of x.case in
           let i = inputs _ _ x.case _ h _ _ c.relations_of-g.ensures.1 c.nodes_of-t.ensures in
           let T = c.of_tables-m.ensures p _ _ c.ranges_of-ranges.ensures.1 i in
-          let grounded = within_usual x.case _ T _ c.usual_limits.ensures _ c.refusal-k.ensures c.if-k-ne0.false in
+          let grounded = within_usual x.case _ T _ c.usual_limits.ensures c.in_ok-within.ensures in
           let is = c.fill.ensures.1 p _ (some_relations x.case) i (c.lay_out-l.ensures p _ _ c.ranges_of-ranges.ensures.1 i).starts in
           let q = c.picks_length-held.ensures.picks (bare p) is ∙ length_same p in
-          let e = c.spare_word-s.ensures (bare p) is ∙ spare_same p _ in
-          let asks = asks_of usual _ site picks x read _ given F handed grounded _ q (omega (arith, c.if-picks-held.false)) _ e c.in-Clear.is _ _ h A _ _ _ _ _ _ i is in
-          ends_judged usual _ site picks x read _ given F handed grounded _ q (omega (arith, c.if-picks-held.false)) _ e c.in-Clear.is _ (c.decide.ensures x.case F asks (c.values_of-count.ensures.0 ∙ values_are x.case _ (tuples_told x.case _ T)));
+          let e = c.spare_word.ensures (bare p) is ∙ spare_same p _ in
+          let asks = asks_of usual _ site picks x read _ given F handed grounded _ q (omega (arith, c.if-picks-held.false)) _ e c.in_default.is _ _ h A _ _ _ _ _ _ i is in
+          ends_judged usual _ site picks x read _ given F handed grounded _ q (omega (arith, c.if-picks-held.false)) _ e c.in_default.is _ (c.decide.ensures x.case F asks (c.values_of-count.ensures.0 ∙ values_are x.case _ (tuples_told x.case _ T)));
     }

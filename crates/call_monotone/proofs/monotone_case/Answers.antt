@@ -9,7 +9,7 @@ use Rattle.laws.specs.Reader.{Accepted, gives_if, case_fits}
 use Rattle.problem_layout.specs.LaidLaws.{most_zeros}
 use Rattle.problem_sizes.specs.Refused.{every_told}
 use Rattle.problem_of_case.specs.Grounds.{declared, rule_fine, inputs}
-use Rattle.read_sheets.specs.Opening.{case_read}
+use Rattle.std.proofs.lemmas.Result.{err_from_is_err_and}
 use Rattle.eval_table.specs.Everywhere.{plain_true, plain_value, no_every}
 use Rattle.open_case.specs.Known.{facts_held}
 use Rattle.open_case.specs.Usual.{over_usual, within_usual}
@@ -27,19 +27,20 @@ nodes_of-t-requires c = rule_fine _ _ _ _ c.requires.holds
 pub of_tables-m-requires : goal.of_tables-m-requires
 of_tables-m-requires c = let h = c.requires.holds in (h.some_elements, h.few_elements, c.relations_of-g.ensures.0, c.nodes_of-t.ensures.fits, c.ranges_of-ranges.ensures.0)
 
-pub returns-then-k-ne0 : goal.returns-then-k-ne0
-returns-then-k-ne0 c =
-    λ site read z f.
-    let x = case_read usual _ site _ _ read z in let i = inputs _ _ x.0 _ x.2 _ _ c.relations_of-g.ensures.1 c.nodes_of-t.ensures in
+pub returns-in_err-within : goal.returns-in_err-within
+returns-in_err-within c =
+    let p = err_from_is_err_and c.from_residual.result c.from_residual.ensures.1 in
+    λ site x f.
+    let i = inputs _ _ x.0 _ x.2 _ _ c.relations_of-g.ensures.1 c.nodes_of-t.ensures in
     let T = c.of_tables-m.ensures (problem_of x.0) _ _ c.ranges_of-ranges.ensures.1 i in
-    ends_over usual _ site _ _ read z _ (over_usual x.0 _ T _ c.usual_limits.ensures _ c.refusal-k.ensures c.if-k-ne0.true)
+    rw (p.1, p.2) (ends_over usual _ site _ _ x _ (over_usual x.0 _ T _ c.usual_limits.ensures _ c.in_err-within.ensures))
 
 pub returns-then-m : goal.returns-then-m
 returns-then-m c =
-    λ site read z f.
-    let x = case_read usual _ site _ _ read z in let i = inputs _ _ x.0 _ x.2 _ _ c.relations_of-g.ensures.1 c.nodes_of-t.ensures in
+    λ site x f.
+    let i = inputs _ _ x.0 _ x.2 _ _ c.relations_of-g.ensures.1 c.nodes_of-t.ensures in
     let T = c.of_tables-m.ensures (problem_of x.0) _ _ c.ranges_of-ranges.ensures.1 i in
-    ends_else usual _ site _ _ read z (within_usual x.0 _ T _ c.usual_limits.ensures _ c.refusal-k.ensures c.if-k-ne0.false) (else_every _ _ (every_told x.0 _ T) c.if-m.true)
+    rw c.at.ensures (ends_else usual _ site _ _ x (within_usual x.0 _ T _ c.usual_limits.ensures c.in_ok-within.ensures) (else_every _ _ (every_told x.0 _ T) c.if-m.true))
 
 pub overflow_add-first : goal.overflow_add-first
 overflow_add-first c = omega (arith, c.requires.holds.sound.rels_le)
@@ -49,21 +50,21 @@ some_function-requires c = (c.relations_of-g.ensures.0, omega (arith, c.requires
 
 pub returns-then-some_function : goal.returns-then-some_function
 returns-then-some_function c =
-    λ site read z f.
-    let x = case_read usual _ site _ _ read z in let h = x.2 in let i = inputs _ _ x.0 _ h _ _ c.relations_of-g.ensures.1 c.nodes_of-t.ensures in
+    λ site x f.
+    let h = x.2 in let i = inputs _ _ x.0 _ h _ _ c.relations_of-g.ensures.1 c.nodes_of-t.ensures in
     let A = gives_if Accepted (read_case usual _ site) x.0 x.1 (case_fits usual (omega arith) _ site) in
     let T = c.of_tables-m.ensures (problem_of x.0) _ _ c.ranges_of-ranges.ensures.1 i in
-    ends_else usual _ site _ _ read z (within_usual x.0 _ T _ c.usual_limits.ensures _ c.refusal-k.ensures c.if-k-ne0.false)
-    (else_kinds _ _ (every_told x.0 _ T) _ (by_kinds _ x.0 A _ _ h _ _ _ _ _ i _ c.some_function.ensures) c.if-some_function.true)
+    rw c.at-then-some_function.ensures (ends_else usual _ site _ _ x (within_usual x.0 _ T _ c.usual_limits.ensures c.in_ok-within.ensures)
+    (else_kinds _ _ (every_told x.0 _ T) _ (by_kinds _ x.0 A _ _ h _ _ _ _ _ i _ c.some_function.ensures) c.if-some_function.true))
 
 pub returns-then-tree_refuses : goal.returns-then-tree_refuses
 returns-then-tree_refuses c =
-    λ site read z f.
-    let x = case_read usual _ site _ _ read z in let h = x.2 in let i = inputs _ _ x.0 _ h _ _ c.relations_of-g.ensures.1 c.nodes_of-t.ensures in
+    λ site x f.
+    let h = x.2 in let i = inputs _ _ x.0 _ h _ _ c.relations_of-g.ensures.1 c.nodes_of-t.ensures in
     let A = gives_if Accepted (read_case usual _ site) x.0 x.1 (case_fits usual (omega arith) _ site) in
     let T = c.of_tables-m.ensures (problem_of x.0) _ _ c.ranges_of-ranges.ensures.1 i in
-    ends_else usual _ site _ _ read z (within_usual x.0 _ T _ c.usual_limits.ensures _ c.refusal-k.ensures c.if-k-ne0.false)
-    (else_tree _ _ (every_told x.0 _ T) _ (by_kinds _ x.0 A _ _ h _ _ _ _ _ i _ c.some_function.ensures) _ (by_tree _ x.0 A _ _ h _ _ _ _ _ i _ c.tree_refuses.ensures) c.if-tree_refuses.true)
+    rw c.at-then-tree_refuses.ensures (ends_else usual _ site _ _ x (within_usual x.0 _ T _ c.usual_limits.ensures c.in_ok-within.ensures)
+    (else_tree _ _ (every_told x.0 _ T) _ (by_kinds _ x.0 A _ _ h _ _ _ _ _ i _ c.some_function.ensures) _ (by_tree _ x.0 A _ _ h _ _ _ _ _ i _ c.tree_refuses.ensures) c.if-tree_refuses.true))
 
 pub slice_bounds-fill-end-2 : goal.slice_bounds-fill-end-2
 slice_bounds-fill-end-2 c = sym c.requires.holds.members_are.room
@@ -106,8 +107,8 @@ rule_is_true-requires c =
 
 pub returns-then-rule_is_true : goal.returns-then-rule_is_true
 returns-then-rule_is_true c =
-    λ site read z f.
-    let x = case_read usual _ site _ _ read z in let h = x.2 in let i = inputs _ _ x.0 _ h _ _ c.relations_of-g.ensures.1 c.nodes_of-t.ensures in
+    λ site x f.
+    let h = x.2 in let i = inputs _ _ x.0 _ h _ _ c.relations_of-g.ensures.1 c.nodes_of-t.ensures in
     let A = gives_if Accepted (read_case usual _ site) x.0 x.1 (case_fits usual (omega arith) _ site) in
     let T = c.of_tables-m.ensures (problem_of x.0) _ _ c.ranges_of-ranges.ensures.1 i in
     let told = every_told x.0 _ T in let plain = no_every x.0 _ told c.if-m.false in
@@ -125,13 +126,13 @@ returns-then-rule_is_true c =
       lined = c.fill.ensures;
     }) (facts_held _ x.0 _ _ h) (f x.0 A h)
     ∙ ap (rule_holds x.0) (plain_value x.0 A plain (cells (problem_of x.0))) ∙ sym (plain_true x.0 A plain (cells (problem_of x.0))) in
-    ends_yes usual _ site _ _ read z (within_usual x.0 _ T _ c.usual_limits.ensures _ c.refusal-k.ensures c.if-k-ne0.false)
+    ends_yes usual _ site _ _ x (within_usual x.0 _ T _ c.usual_limits.ensures c.in_ok-within.ensures)
     (profile _ _ told _ (by_kinds _ x.0 A _ _ h _ _ _ _ _ i _ c.some_function.ensures) _ (by_tree _ x.0 A _ _ h _ _ _ _ _ i _ c.tree_refuses.ensures) c.if-m.false c.if-some_function.false c.if-tree_refuses.false) _ r c.if-rule_is_true.true
 
 pub returns : goal.returns
 returns c =
-    λ site read z f.
-    let x = case_read usual _ site _ _ read z in let h = x.2 in let i = inputs _ _ x.0 _ h _ _ c.relations_of-g.ensures.1 c.nodes_of-t.ensures in
+    λ site x f.
+    let h = x.2 in let i = inputs _ _ x.0 _ h _ _ c.relations_of-g.ensures.1 c.nodes_of-t.ensures in
     let A = gives_if Accepted (read_case usual _ site) x.0 x.1 (case_fits usual (omega arith) _ site) in
     let T = c.of_tables-m.ensures (problem_of x.0) _ _ c.ranges_of-ranges.ensures.1 i in
     let told = every_told x.0 _ T in let plain = no_every x.0 _ told c.if-m.false in
@@ -149,5 +150,5 @@ returns c =
       lined = c.fill.ensures;
     }) (facts_held _ x.0 _ _ h) (f x.0 A h)
     ∙ ap (rule_holds x.0) (plain_value x.0 A plain (cells (problem_of x.0))) ∙ sym (plain_true x.0 A plain (cells (problem_of x.0))) in
-    ends_no usual _ site _ _ read z (within_usual x.0 _ T _ c.usual_limits.ensures _ c.refusal-k.ensures c.if-k-ne0.false)
-    (profile _ _ told _ (by_kinds _ x.0 A _ _ h _ _ _ _ _ i _ c.some_function.ensures) _ (by_tree _ x.0 A _ _ h _ _ _ _ _ i _ c.tree_refuses.ensures) c.if-m.false c.if-some_function.false c.if-tree_refuses.false) _ r c.if-rule_is_true.false
+    rw c.at-2.ensures (ends_no usual _ site _ _ x (within_usual x.0 _ T _ c.usual_limits.ensures c.in_ok-within.ensures)
+    (profile _ _ told _ (by_kinds _ x.0 A _ _ h _ _ _ _ _ i _ c.some_function.ensures) _ (by_tree _ x.0 A _ _ h _ _ _ _ _ i _ c.tree_refuses.ensures) c.if-m.false c.if-some_function.false c.if-tree_refuses.false) _ r c.if-rule_is_true.false)

@@ -22,12 +22,6 @@ bounds-g-first c = omega (arith, c.requires.1, c.loop-i.invariant.2)
 pub returns-then-g-first-gt1 : goal.returns-then-g-first-gt1
 returns-then-g-first-gt1 c = sym (c.loop-i.invariant.1 ∙ any_yes _ _ _ (omega arith) (lt-ltb 1 (get_or c.args.g.kind (c.args.first + c.loop-i.i) 0) (omega (arith, c.if-g-first-gt1.true))))
 
-pub overflow_add-i : goal.overflow_add-i
-overflow_add-i c = omega arith
-
-pub loop-i-smaller : goal.loop-i-smaller
-loop-i-smaller c = omega arith
-
 pub loop-i-preserved : goal.loop-i-preserved
 loop-i-preserved c = (omega arith, c.loop-i.invariant.1 ∙ any_no _ _ _ (omega arith) (le-ltb 1 (get_or c.args.g.kind (c.args.first + c.loop-i.i) 0) (omega (arith, c.if-g-first-gt1.false))), c.loop-i.invariant.2)
 

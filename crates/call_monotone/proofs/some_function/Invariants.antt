@@ -7,6 +7,3 @@ use Rattle.call_monotone.proofs.some_function.Given as goal
 
 abbrev pub invariant-loop-i : goal.invariant-loop-i
 invariant-loop-i l = (l.i ≤ l.count) × (any (kind_at l.g.kind l.first) (below l.count) ≡ any (kind_at l.g.kind l.first) (from l.i (l.count - l.i))) × (length l.g.kind ≡ 18)
-
-abbrev pub decreases-loop-i : goal.decreases-loop-i
-decreases-loop-i l = l.count - l.i

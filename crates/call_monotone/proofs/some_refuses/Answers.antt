@@ -18,12 +18,6 @@ bounds-t-at c = omega (arith, c.requires.1, c.loop-i.invariant.2)
 pub returns-then-part_refuses : goal.returns-then-part_refuses
 returns-then-part_refuses c = sym (c.loop-i.invariant.1 ∙ any_yes _ _ _ (omega arith) (sym c.part_refuses.ensures ∙ c.if-part_refuses.true))
 
-pub overflow_add-i : goal.overflow_add-i
-overflow_add-i c = omega arith
-
-pub loop-i-smaller : goal.loop-i-smaller
-loop-i-smaller c = omega arith
-
 pub loop-i-preserved : goal.loop-i-preserved
 loop-i-preserved c = (omega arith, c.loop-i.invariant.1 ∙ any_no _ _ _ (omega arith) (sym c.part_refuses.ensures ∙ c.if-part_refuses.false), c.loop-i.invariant.2)
 

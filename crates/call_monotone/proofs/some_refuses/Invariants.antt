@@ -7,6 +7,3 @@ use Rattle.call_monotone.proofs.some_refuses.Given as goal
 
 abbrev pub invariant-loop-i : goal.invariant-loop-i
 invariant-loop-i l = (l.i ≤ l.many) × (any (part_at l.first l.t l.at) (below l.many) ≡ any (part_at l.first l.t l.at) (from l.i (l.many - l.i))) × (length l.t.parts ≡ 64)
-
-abbrev pub decreases-loop-i : goal.decreases-loop-i
-decreases-loop-i l = l.many - l.i

@@ -23,12 +23,6 @@ some_refuses-requires c = (c.requires, omega (arith, c.wide-at.ensures.0, c.wide
 pub returns-then-some_refuses : goal.returns-then-some_refuses
 returns-then-some_refuses c = rows_refuse _ _ c.requires _ c.part_refuses.ensures true c.if-part_refuses.false (c.loop-v.invariant.1 ∙ any_yes _ _ _ (omega arith) (row_of _ c.args.t c.loop-v.v _ _ _ refl c.wide-at.ensures.0 c.wide-many.ensures.0 _ c.some_refuses.ensures true c.if-some_refuses.true))
 
-pub overflow_add-v : goal.overflow_add-v
-overflow_add-v c = omega (arith, c.requires.few)
-
-pub loop-v-smaller : goal.loop-v-smaller
-loop-v-smaller c = omega arith
-
 pub loop-v-preserved : goal.loop-v-preserved
 loop-v-preserved c = (omega arith, c.loop-v.invariant.1 ∙ any_no _ _ _ (omega arith) (row_of _ c.args.t c.loop-v.v _ _ _ refl c.wide-at.ensures.0 c.wide-many.ensures.0 _ c.some_refuses.ensures false c.if-some_refuses.false), c.loop-v.invariant.2)
 

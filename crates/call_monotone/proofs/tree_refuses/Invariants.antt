@@ -7,6 +7,3 @@ use Rattle.call_monotone.proofs.tree_refuses.Given as goal
 
 abbrev pub invariant-loop-v : goal.invariant-loop-v
 invariant-loop-v l = (l.v ≤ l.t.count) × (any (row_refuses l.first l.t) (below l.t.count) ≡ any (row_refuses l.first l.t) (from l.v (l.t.count - l.v))) × (length l.t.rows ≡ 64)
-
-abbrev pub decreases-loop-v : goal.decreases-loop-v
-decreases-loop-v l = l.t.count - l.v

@@ -8,10 +8,10 @@ use borrow.Author.Rules.{rules}
 use Rattle.call_page.proofs.lay_page.Goals as goal
 
 pub returns-then-page-eq0 : goal.returns-then-page-eq0
-returns-then-page-eq0 c = page_zero _ _ _ _ _ _ _ _ (omega arith)
+returns-then-page-eq0 c = rw c.at.ensures (page_zero _ _ _ _ _ _ _ _ (omega arith))
 
 pub returns-then-page-gt-PAGES : goal.returns-then-page-gt-PAGES
-returns-then-page-gt-PAGES c = page_beyond _ _ _ _ _ _ _ _ (omega arith)
+returns-then-page-gt-PAGES c = rw c.at-then-page-gt-PAGES.ensures (page_beyond _ _ _ _ _ _ _ _ (omega arith))
 
 pub names_of-requires : goal.names_of-requires
 names_of-requires c = record { by_index = (_, c.requires.printable.sound); names_len = (search rules, most_zeros 54 0) }
@@ -26,4 +26,4 @@ pub returns-then-index-steps : goal.returns-then-index-steps
 returns-then-index-steps c = page_found _ _ _ _ _ _ _ _ _ c.names_of.ensures _ _ _ c.first_step-found.ensures.3 (omega arith) (omega arith) (omega arith) c.first_step-found.ensures.1 _ _ _ refl c.page-bytes.ensures
 
 pub returns : goal.returns
-returns c = page_missing _ _ _ _ _ _ _ _ _ c.names_of.ensures _ _ _ c.first_step-found.ensures.3 (omega arith) (omega arith) (omega arith)
+returns c = rw c.at-2.ensures (page_missing _ _ _ _ _ _ _ _ _ c.names_of.ensures _ _ _ c.first_step-found.ensures.3 (omega arith) (omega arith) (omega arith))

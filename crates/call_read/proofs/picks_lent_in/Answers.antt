@@ -1,6 +1,8 @@
 -- `call_read::picks_lent_in` meets its contract: the case is refused, the steps are too many, or they are run. Assumes nothing.
+use Rattle.std.proofs.lemmas.Result.{err_from_is_err_and}
 use native.Mathlib.Omega.{arith}
 use Rattle.definitions.specs.Limits.{usual}
+use Rattle.refusal.specs.declared.Cause.TheVariants.{TooLong}
 use Rattle.problem_table.specs.Lines.{table_length}
 use Rattle.problem_layout.specs.LaidLaws.{most_zeros}
 use Rattle.open_case.specs.Replies.{lent_many, lent_few}
@@ -9,17 +11,19 @@ use Rattle.call_read.specs.Reads.{call_case, call_steps}
 use borrow.Author.Rules.{rules}
 use Rattle.call_read.proofs.picks_lent_in.Goals as goal
 
-pub open_case-f-requires : goal.open_case-f-requires
-open_case-f-requires c = record { facts_room = c.requires; table_len = (search rules, most_zeros table_length 0) }
+pub open_case-requires : goal.open_case-requires
+open_case-requires c = record { facts_room = c.requires; table_len = (search rules, most_zeros table_length 0) }
 
-pub returns-then-f-ne0 : goal.returns-then-f-ne0
-returns-then-f-ne0 c = call_case _ _ _ _ _ _ usual _ _ c.open_case-f.ensures c.if-f-ne0.true
+pub returns-in_err-f : goal.returns-in_err-f
+returns-in_err-f c =
+    let p = err_from_is_err_and c.from_residual.result c.from_residual.ensures.1 in
+    rw (p.1, p.2) (call_case _ _ _ usual _ _ _ c.in_err-f.ensures)
 
 pub returns-then-steps-gt-STEPS : goal.returns-then-steps-gt-STEPS
-returns-then-steps-gt-STEPS c = call_steps _ _ _ _ _ _ usual _ _ c.open_case-f.ensures c.if-f-ne0.false _ _ (lent_many _ (omega arith))
+returns-then-steps-gt-STEPS c = rw c.at.ensures (call_steps _ _ _ usual _ _ _ _ _ c.in_ok-f.ensures (record { cause = TooLong; place = 0 }) (lent_many _ (omega arith)))
 
 pub read_steps-requires : goal.read_steps-requires
-read_steps-requires c = (_, front_ready usual _ _ _ _ _ c.open_case-f.ensures (omega arith) (omega arith) c.if-f-ne0.false)
+read_steps-requires c = (_, front_ready usual _ _ _ _ _ c.in_ok-f.ensures (omega arith) (omega arith))
 
 pub returns : goal.returns
-returns c = c.read_steps.ensures _ (lent_few _ (omega arith)) usual _ _ c.open_case-f.ensures c.if-f-ne0.false
+returns c = c.read_steps.ensures _ (lent_few _ (omega arith)) usual _ _ c.in_ok-f.ensures

@@ -1,17 +1,17 @@
 -- `call_sizes::tally_in` meets its contract: the case is refused, or its counts are the walk's. Assumes nothing.
-use mathlib.Core.Path.{refl}
+use Rattle.std.proofs.Math.Path.{refl}
+use Rattle.std.proofs.lemmas.Result.{err_from_is_err_and}
 use Rattle.definitions.specs.Limits.{usual}
-use Rattle.read_sheets.specs.Opening.{case_read}
 use Rattle.call_sizes.specs.Counts.{tally_refused, tally_counted}
 use Rattle.call_sizes.proofs.tally_in.Goals as goal
 
-pub returns-then-o-ne0 : goal.returns-then-o-ne0
-returns-then-o-ne0 c = tally_refused _ _ _ _ _ (c.read_case-o.ensures usual refl) c.if-o-ne0.true
+pub returns-in_err-o : goal.returns-in_err-o
+returns-in_err-o c =
+    let p = err_from_is_err_and c.from_residual.result c.from_residual.ensures.1 in
+    rw (p.1, p.2) (tally_refused usual _ _ _ (c.in_err-o.ensures usual refl))
 
-pub of_case-t-requires : goal.of_case-t-requires
-of_case-t-requires c =
-    let (x, e, h) = case_read _ _ _ _ _ (c.read_case-o.ensures usual refl) c.if-o-ne0.false in
-    record { case = x; facts = _; holds = h }
+pub of_case-requires : goal.of_case-requires
+of_case-requires c = let (x, e, h) = c.in_ok-o.ensures usual refl in record { case = x; facts = _; holds = h }
 
 pub returns : goal.returns
-returns c = tally_counted _ _ _ _ _ (c.read_case-o.ensures usual refl) c.if-o-ne0.false _ c.of_case-t.ensures
+returns c = tally_counted usual _ _ _ _ (c.in_ok-o.ensures usual refl) _ c.of_case.ensures

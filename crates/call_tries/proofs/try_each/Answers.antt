@@ -1,20 +1,13 @@
-use Rattle.std.proofs.Common.{refl, arith}
-use Rattle.call_tries.proofs.Written.{one_more, first_of_all, last_of_all}
-use Rattle.call_tries.specs.Each.{answer}
+use Rattle.std.proofs.Common.{arith, sym, ◌∙◌}
+use Rattle.call_tries.specs.Each.{answer, rest_start, rest_answered, rest_end}
 use Rattle.call_tries.proofs.try_each.Goals as goal
 
-pub loop-i-init : goal.loop-i-init
-loop-i-init c = (omega arith, λ p serves. first_of_all _ _ _, λ none. refl)
+pub loop-t-init : goal.loop-t-init
+loop-t-init c = λ p serves. rest_start _ _
 
-pub loop-i-preserved : goal.loop-i-preserved
-loop-i-preserved c = (
-  omega arith,
-  λ p serves. one_more p _ _ _ _ _ _ (omega arith) (omega arith) (c.try_list-v.ensures p serves) (c.loop-i.invariant.1 p serves),
-  λ none. absurd (omega arith),
-)
+pub loop-t-preserved : goal.loop-t-preserved
+loop-t-preserved c =
+    λ p serves. rest_answered p _ _ _ _ _ _ c.answered.ensures (c.try_list.ensures p serves) (omega (arith, c.loop-t.auto.tries, c.loop-t-test.true)) ∙ c.loop-t.invariant p serves
 
 pub returns : goal.returns
-returns c = (
-  λ p serves. last_of_all (answer p c.args.steps.now) _ c.loop-i.i _ _ c.loop-i-test.false (c.loop-i.invariant.1 p serves),
-  c.loop-i.invariant.2,
-)
+returns c = λ p serves. sym (rest_end (answer p c.args.steps.now) c.loop-t.t-index c.loop-t.tries (omega (arith, c.loop-t.auto.tries, c.loop-t-test.false))) ∙ c.loop-t.invariant p serves

@@ -9,7 +9,8 @@ use Rattle.meaning.specs.Grounded.{good}
 use Rattle.problem_sizes.specs.Sums.{Tallied}
 use Rattle.problem_sizes.specs.Refused.{every_told}
 use Rattle.problem_of_case.specs.Grounds.{declared, rule_fine, inputs}
-use Rattle.read_sheets.specs.Opening.{Holds, case_read}
+use Rattle.std.proofs.lemmas.Result.{err_from_is_err_and}
+use Rattle.read_sheets.specs.Opening.{Holds}
 use Rattle.open_case.specs.Usual.{over_usual, within_usual}
 use Rattle.call_window.specs.Windows.{window_over, window_every, window_told}
 use Rattle.call_window.proofs.of_case.Goals as goal
@@ -33,31 +34,31 @@ nodes_of-t-requires c = rule_fine _ _ _ _ c.requires.holds
 pub of_tables-m-requires : goal.of_tables-m-requires
 of_tables-m-requires c = let h = c.requires.holds in (h.some_elements, h.few_elements, c.relations_of-g.ensures.0, c.nodes_of-t.ensures.fits, c.ranges_of-ranges.ensures.0)
 
-pub returns-then-k-ne0 : goal.returns-then-k-ne0
-returns-then-k-ne0 c =
-    λ site facts read z.
-    let (x, e, h) = case_read usual _ site _ facts read z in
-    window_over usual _ site _ facts read z _
-    (over_usual x _ (tallied (goal.at.returns-then-k-ne0 c).After-of_tables-m x facts h) _ c.usual_limits.ensures _ c.refusal-k.ensures c.if-k-ne0.true)
+pub returns-in_err-within : goal.returns-in_err-within
+returns-in_err-within c =
+    let p = err_from_is_err_and c.from_residual.result c.from_residual.ensures.1 in
+    λ site facts (x, e, h).
+    rw (p.1, p.2)
+    (window_over usual _ site _ facts (x, e, h) _
+    (over_usual x _ (tallied (goal.at.returns-in_err-within c).After-of_tables-m x facts h) _ c.usual_limits.ensures _ c.in_err-within.ensures))
 
 pub returns-then-m : goal.returns-then-m
 returns-then-m c =
-    λ site facts read z.
-    let (x, e, h) = case_read usual _ site _ facts read z in
+    λ site facts (x, e, h).
     let T = tallied (goal.at.returns-then-m c).After-of_tables-m x facts h in
-    window_every usual _ site _ facts read z
-    (within_usual x _ T _ c.usual_limits.ensures _ c.refusal-k.ensures c.if-k-ne0.false) _ (every_told x _ T) c.if-m.true
+    rw c.at.ensures
+    (window_every usual _ site _ facts (x, e, h)
+    (within_usual x _ T _ c.usual_limits.ensures c.in_ok-within.ensures) _ (every_told x _ T) c.if-m.true)
 
-pub of_tables-w-requires : goal.of_tables-w-requires
-of_tables-w-requires c = (c.nodes_of-t.ensures.fits, c.ranges_of-ranges.ensures.0)
+pub of_tables-requires : goal.of_tables-requires
+of_tables-requires c = (c.nodes_of-t.ensures.fits, c.ranges_of-ranges.ensures.0)
 
 pub returns : goal.returns
 returns c =
-    λ site facts read z.
-    let (x, e, h) = case_read usual _ site _ facts read z in
+    λ site facts (x, e, h).
     let T = tallied (goal.at.returns c).After-of_tables-m x facts h in
-    window_told usual _ site _ facts read z
-    (within_usual x _ T _ c.usual_limits.ensures _ c.refusal-k.ensures c.if-k-ne0.false) _ (every_told x _ T)
-    (omega arith) c.if-m.false _ _
-    (λ y A i. c.of_tables-w.ensures (problem_of y) _ _ _ (good y A) c.ranges_of-ranges.ensures.1
+    window_told usual _ site _ facts (x, e, h)
+    (within_usual x _ T _ c.usual_limits.ensures c.in_ok-within.ensures) _ (every_told x _ T)
+    (omega arith) c.if-m.false _
+    (λ y A i. c.of_tables.ensures (problem_of y) _ _ _ (good y A) c.ranges_of-ranges.ensures.1
     (inputs _ _ y facts i _ _ c.relations_of-g.ensures.1 c.nodes_of-t.ensures))

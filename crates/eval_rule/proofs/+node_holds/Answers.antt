@@ -1,4 +1,4 @@
-use Prim.Native.Nat.{◌+◌, ◌-◌, ◌≤◌, ℕ, ◌<◌}
+use Prim.Native.Nat.{◌+◌, ◌≤◌, ℕ, ◌<◌}
 use mathlib.Core.Path.{◌≡◌, refl, sym, ◌∙◌}
 use native.Mathlib.Omega.{arith}
 use borrow.Author.Rules.{rules}
@@ -7,11 +7,11 @@ use lib.ListN.{length, set}
 use Rattle.rows.specs.Values.{value_in}
 use Rattle.rows.specs.Laws.{within_set}
 use Rattle.eval_rule.specs.Lines.{lines_length, leaf_at, element_in, value_of}
-use Rattle.eval_rule.specs.Says.{AllTurns, IsCell}
+use Rattle.eval_rule.specs.Says.{IsCell}
 use Rattle.eval_rule.specs.Laws.{level_small, parts_small, range_inside, element_small, rises, steady_start, steady_next, values_are}
-use Rattle.eval_rule.specs.Laws.{value_small, turns_start, parts_start, parts_next, none_gone, one_gone, ends, part_ends, part_goes, none_goes}
+use Rattle.eval_rule.specs.Laws.{value_small, turns_start, parts_start, parts_next, ends, part_ends, part_goes, none_goes}
 use Rattle.eval_rule.specs.Laws.{none_ends, cell_node, cell_leaf, known_is, later_over, still_is, passed_none, passed_over, passed_back}
-use Rattle.eval_rule.specs.Laws.{passed_next, cell_known, fixed_ends}
+use Rattle.eval_rule.specs.Laws.{agree_is, passed_next, cell_known, fixed_ends}
 use Rattle.eval_rule.proofs.+node_holds.Goals as goal
 use Rattle.eval_rule.proofs.+node_holds.Goals.{After-node_at-x, Joined-is_known, then-is_known, else-is_known+then-q-eq0, else-is_known+else-q-eq0}
 
@@ -37,7 +37,7 @@ cell t c =
           (set e.values x.result.level u.result) c.if-is_known.b w.if-q-eq0.false
           (within_set a.n e.values x.result.level u.result
           (value_small _ _ _ _ _ u.ensures
-          (element_small _ _ c.requires.0 _ c.requires.1 _ x.ensures (x.result.count - e.left) (omega
+          (element_small _ _ c.requires.0 _ c.requires.1 _ x.ensures e.turn (omega
           (arith, c.elements-test.true, e.invariant.0))) (c.requires.2 x.result.level)) e.invariant.3)
           (w.b-is ∙ w.leaf_holds.ensures)
     ]
@@ -58,19 +58,10 @@ elements-init t c =
       refl,
       steady_start a.env x.result.level (omega (arith, len, level_small _ _ c.requires.0 _ c.requires.1 _ x.ensures)),
       c.requires.2,
-      none_gone (AllTurns a.n a.lines.now (leaf_at a.facts.now a.picks.now a.n) a.v
-          x.result.kind x.result.level x.result.many (eqb x.result.join 1) (eqb x.result.kind 1)
-          (value_in a.env) (element_in a.lines.now x.result.range) x.result.count) x.result.count
-          (turns_start a.n a.lines.now (leaf_at a.facts.now a.picks.now a.n) a.v x.result (value_in a.env) x.ensures),
+      turns_start a.n a.lines.now (leaf_at a.facts.now a.picks.now a.n) a.v x.result (value_in a.env) x.ensures,
       passed_none a.n a.lines.now (leaf_at a.facts.now a.picks.now a.n) a.v x.result.level x.result.first x.result.many (eqb x.result.join 1)
           (value_in a.env),
     )
-
-pub overflow_sub-turn : goal.overflow_sub-turn
-overflow_sub-turn t c = omega (arith, c.elements.invariant.0)
-
-pub overflow_sub-left : goal.overflow_sub-left
-overflow_sub-left t c = omega arith
 
 pub overflow_add-range : goal.overflow_add-range
 overflow_add-range t c = omega (arith, (line-says t (goal.at.overflow_add-range t c).After-node_at-x).2)
@@ -119,7 +110,7 @@ node_holds-requires t c =
         higher.1,
         within_set a.n e.values x.result.level u.result
             (value_small _ _ _ _ _ u.ensures
-            (element_small _ _ c.requires.0 _ c.requires.1 _ x.ensures (x.result.count - e.left) (omega (arith, elements-test.true, e.invariant.0))) (c.requires.2 x.result.level)) e.invariant.3,
+            (element_small _ _ c.requires.0 _ c.requires.1 _ x.ensures e.turn (omega (arith, elements-test.true, e.invariant.0))) (c.requires.2 x.result.level)) e.invariant.3,
       ),
     )
 
@@ -133,28 +124,22 @@ leaf_holds-requires t c =
       omega (arith, parts_small _ _ c.requires.0 _ c.requires.1 _ x.ensures, c.parts-test.true),
       within_set a.n e.values x.result.level u.result
           (value_small _ _ _ _ _ u.ensures
-          (element_small _ _ c.requires.0 _ c.requires.1 _ x.ensures (x.result.count - e.left) (omega (arith, elements-test.true, e.invariant.0))) (c.requires.2 x.result.level)) e.invariant.3,
+          (element_small _ _ c.requires.0 _ c.requires.1 _ x.ensures e.turn (omega (arith, elements-test.true, e.invariant.0))) (c.requires.2 x.result.level)) e.invariant.3,
     )
 
-pub elements-smaller-then-agrees : goal.elements-smaller-then-agrees
-elements-smaller-then-agrees t c = omega (arith, c.elements-test.true)
-
-pub elements-preserved-then-agrees : goal.elements-preserved-then-agrees
-elements-preserved-then-agrees t c =
-    let parts-test = c.parts-test in let o = c.parts in let u = c.value_at in let elements-test = c.elements-test in let e = c.elements in let d = c.agrees-decisive in let x = c.node_at-x in let a = c.args in let r = c.agrees in (
+pub elements-preserved-then-b-joins : goal.elements-preserved-then-b-joins
+elements-preserved-then-b-joins t c =
+    let parts-test = c.parts-test in let o = c.parts in let u = c.value_at in let elements-test = c.elements-test in let e = c.elements in let x = c.node_at-x in let a = c.args in (
       omega (arith, elements-test.true, e.invariant.0),
       o.invariant.2,
       steady_next a.env x.result.level e.values u.result e.invariant.2,
       within_set a.n e.values x.result.level u.result
           (value_small _ _ _ _ _ u.ensures
-          (element_small _ _ c.requires.0 _ c.requires.1 _ x.ensures (x.result.count - e.left) (omega (arith, elements-test.true, e.invariant.0))) (c.requires.2 x.result.level)) e.invariant.3,
-      one_gone (AllTurns a.n a.lines.now (leaf_at a.facts.now a.picks.now a.n) a.v
-          x.result.kind x.result.level x.result.many (eqb x.result.join 1) (eqb x.result.kind 1)
-          (value_in a.env) (element_in a.lines.now x.result.range) x.result.count) x.result.count e.left (omega (arith, elements-test.true)) e.invariant.0
-          (part_goes _ _ _ _ _ _ _ _ _ _ _ _ _ e.invariant.4 (omega (arith, elements-test.true, e.invariant.0))
+          (element_small _ _ c.requires.0 _ c.requires.1 _ x.ensures e.turn (omega (arith, elements-test.true, e.invariant.0))) (c.requires.2 x.result.level)) e.invariant.3,
+      part_goes _ _ _ _ _ _ _ _ _ _ _ _ _ e.invariant.4 (omega (arith, elements-test.true, e.invariant.0))
           (value_in (set e.values x.result.level u.result)) (values_are a.env _ _ _ _ e.values e.invariant.2 u.ensures)
-          o.i o.invariant.3 d.result d.ensures
-          c.if-is_known.b r.result (omega (arith, parts-test.true)) (cell t ((goal.at.elements-preserved-then-agrees t c).Joined-is_known)) r.ensures c.if-agrees.true c.if-decisive.false),
+          o.i o.invariant.3 _ (agree_is (eqb x.result.join 1) (eqb x.result.kind 1))
+          c.if-is_known.b _ (omega (arith, parts-test.true)) (cell t ((goal.at.elements-preserved-then-b-joins t c).Joined-is_known)) (agree_is c.if-is_known.b (eqb x.result.join 1)) c.if-b-joins.true c.if-decisive.false,
       passed_back _ _ _ _ x.result.level x.result.first x.result.many (eqb x.result.join 1) (value_in a.env) (value_in (set e.values x.result.level u.result)) _
           o.seen (values_are a.env _ _ _ _ e.values e.invariant.2 u.ensures) o.invariant.4,
     )
@@ -162,44 +147,35 @@ elements-preserved-then-agrees t c =
 pub overflow_add-i : goal.overflow_add-i
 overflow_add-i t c = omega (arith, (line-says t (goal.at.overflow_add-i t c).After-node_at-x).1, c.parts-test.true)
 
-pub parts-smaller : goal.parts-smaller
-parts-smaller t c = omega (arith, c.parts-test.true)
-
 pub parts-preserved : goal.parts-preserved
 parts-preserved t c =
-    let parts-test = c.parts-test in let o = c.parts in let u = c.value_at in let e = c.elements in let x = c.node_at-x in let a = c.args in let r = c.agrees in let l = c.later-seen in (
+    let parts-test = c.parts-test in let o = c.parts in let u = c.value_at in let e = c.elements in let x = c.node_at-x in let a = c.args in let l = c.max-seen in (
       omega (arith, parts-test.true),
       (later_over o.seen (o.i + 1) l.result l.ensures).1,
       o.invariant.2,
       parts_next a.n a.lines.now (leaf_at a.facts.now a.picks.now a.n) a.v
           x.result.kind x.result.level x.result.many (eqb x.result.join 1) (eqb x.result.kind 1)
           (value_in (set e.values x.result.level u.result)) o.i o.invariant.3
-          c.if-is_known.b r.result (omega (arith, parts-test.true)) (cell t ((goal.at.parts-preserved t c).Joined-is_known)) r.ensures c.if-agrees.false,
+          c.if-is_known.b _ (omega (arith, parts-test.true)) (cell t ((goal.at.parts-preserved t c).Joined-is_known)) (agree_is c.if-is_known.b (eqb x.result.join 1)) c.if-b-joins.false,
       passed_next a.n a.lines.now (leaf_at a.facts.now a.picks.now a.n) a.v x.result.level x.result.first x.result.many
           (eqb x.result.join 1) (value_in (set e.values x.result.level u.result)) o.seen o.invariant.4 o.i
           (still_is a.n a.lines.now (leaf_at a.facts.now a.picks.now a.n) a.v x.result x.ensures)
-          c.if-is_known.b r.result o.invariant.1 (omega (arith, parts-test.true)) (cell t ((goal.at.parts-preserved t c).Joined-is_known)) r.ensures c.if-agrees.false l.result l.ensures,
+          c.if-is_known.b _ o.invariant.1 (omega (arith, parts-test.true)) (cell t ((goal.at.parts-preserved t c).Joined-is_known)) (agree_is c.if-is_known.b (eqb x.result.join 1)) c.if-b-joins.false l.result l.ensures,
     )
-
-pub elements-smaller : goal.elements-smaller
-elements-smaller t c = omega (arith, c.elements-test.true)
 
 pub elements-preserved : goal.elements-preserved
 elements-preserved t c =
-    let elements-test = c.elements-test in let x = c.node_at-x in let a = c.args in let d = c.agrees-decisive in let e = c.elements in let u = c.value_at in let o = c.parts in (
+    let elements-test = c.elements-test in let x = c.node_at-x in let a = c.args in let e = c.elements in let u = c.value_at in let o = c.parts in (
       omega (arith, elements-test.true, e.invariant.0),
       o.invariant.2,
       steady_next a.env x.result.level e.values u.result e.invariant.2,
       within_set a.n e.values x.result.level u.result
           (value_small _ _ _ _ _ u.ensures
-          (element_small _ _ c.requires.0 _ c.requires.1 _ x.ensures (x.result.count - e.left) (omega (arith, elements-test.true, e.invariant.0))) (c.requires.2 x.result.level)) e.invariant.3,
-      one_gone (AllTurns a.n a.lines.now (leaf_at a.facts.now a.picks.now a.n) a.v
-          x.result.kind x.result.level x.result.many (eqb x.result.join 1) (eqb x.result.kind 1)
-          (value_in a.env) (element_in a.lines.now x.result.range) x.result.count) x.result.count e.left (omega (arith, elements-test.true)) e.invariant.0
-          (none_goes _ _ _ _ _ _ _ _ _ _ _ _ _ e.invariant.4 (omega (arith, elements-test.true, e.invariant.0))
+          (element_small _ _ c.requires.0 _ c.requires.1 _ x.ensures e.turn (omega (arith, elements-test.true, e.invariant.0))) (c.requires.2 x.result.level)) e.invariant.3,
+      none_goes _ _ _ _ _ _ _ _ _ _ _ _ _ e.invariant.4 (omega (arith, elements-test.true, e.invariant.0))
           (value_in (set e.values x.result.level u.result)) (values_are a.env _ _ _ _ e.values e.invariant.2 u.ensures)
-          o.i o.invariant.3 d.result d.ensures
-          (omega arith) c.if-decisive-2.true),
+          o.i o.invariant.3 _ (agree_is (eqb x.result.join 1) (eqb x.result.kind 1))
+          (omega arith) c.if-decisive-2.true,
       passed_back _ _ _ _ x.result.level x.result.first x.result.many (eqb x.result.join 1) (value_in a.env) (value_in (set e.values x.result.level u.result)) _
           o.seen (values_are a.env _ _ _ _ e.values e.invariant.2 u.ensures) o.invariant.4,
     )
@@ -209,23 +185,23 @@ returns-after-elements t c = let x = c.node_at-x in let e = c.elements in ends _
 
 pub returns-then-decisive : goal.returns-then-decisive
 returns-then-decisive t c =
-    let o = c.parts in let u = c.value_at in let elements-test = c.elements-test in let e = c.elements in let d = c.agrees-decisive in let x = c.node_at-x in let a = c.args in let r = c.agrees in part_ends _ _ _ _ _ _ _ _ _ _ _ _ _ e.invariant.4 (omega (arith, elements-test.true, e.invariant.0))
+    let o = c.parts in let u = c.value_at in let elements-test = c.elements-test in let e = c.elements in let x = c.node_at-x in let a = c.args in part_ends _ _ _ _ _ _ _ _ _ _ _ _ _ e.invariant.4 (omega (arith, elements-test.true, e.invariant.0))
     (value_in (set e.values x.result.level u.result)) (values_are a.env _ _ _ _ e.values e.invariant.2 u.ensures)
-    o.i o.invariant.3 d.result d.ensures
-    c.if-is_known.b r.result (omega (arith, c.parts-test.true)) (cell t ((goal.at.returns-then-decisive t c).Joined-is_known)) r.ensures c.if-agrees.true c.if-decisive.true
+    o.i o.invariant.3 _ (agree_is (eqb x.result.join 1) (eqb x.result.kind 1))
+    c.if-is_known.b _ (omega (arith, c.parts-test.true)) (cell t ((goal.at.returns-then-decisive t c).Joined-is_known)) (agree_is c.if-is_known.b (eqb x.result.join 1)) c.if-b-joins.true c.if-decisive.true
 
 pub returns-then-fixed : goal.returns-then-fixed
 returns-then-fixed t c =
-    let parts-test = c.parts-test in let o = c.parts in let u = c.value_at in let e = c.elements in let d = c.agrees-decisive in let x = c.node_at-x in let a = c.args in let f = c.is_fixed-fixed in let r = c.agrees in fixed_ends _ _ _ _ _ _ _ _ _ _ _ _ _ e.invariant.4 x.result.first (still_is a.n a.lines.now (leaf_at a.facts.now a.picks.now a.n) a.v x.result x.ensures)
+    let parts-test = c.parts-test in let o = c.parts in let u = c.value_at in let e = c.elements in let x = c.node_at-x in let a = c.args in let f = c.is_fixed-fixed in fixed_ends _ _ _ _ _ _ _ _ _ _ _ _ _ e.invariant.4 x.result.first (still_is a.n a.lines.now (leaf_at a.facts.now a.picks.now a.n) a.v x.result x.ensures)
     (value_in (set e.values x.result.level u.result))
-    (value_of x.result.kind (element_in a.lines.now x.result.range (x.result.count - e.left)) (value_in a.env x.result.level))
+    (value_of x.result.kind (element_in a.lines.now x.result.range e.turn) (value_in a.env x.result.level))
     (values_are a.env _ _ _ _ e.values e.invariant.2 u.ensures)
     o.i (omega (arith, parts-test.true)) (sym f.ensures ∙ c.if-fixed.true)
-    c.if-is_known.b r.result (cell t ((goal.at.returns-then-fixed t c).Joined-is_known)) r.ensures c.if-agrees.true d.result d.ensures c.if-decisive.false o.answer o.invariant.2
+    c.if-is_known.b _ (cell t ((goal.at.returns-then-fixed t c).Joined-is_known)) (agree_is c.if-is_known.b (eqb x.result.join 1)) c.if-b-joins.true _ (agree_is (eqb x.result.join 1) (eqb x.result.kind 1)) c.if-decisive.false o.answer o.invariant.2
 
 pub returns-else-decisive-2 : goal.returns-else-decisive-2
 returns-else-decisive-2 t c =
-    let a = c.args in let x = c.node_at-x in let d = c.agrees-decisive in let e = c.elements in let u = c.value_at in let o = c.parts in none_ends _ _ _ _ _ _ _ _ _ _ _ _ _ e.invariant.4 (omega (arith, c.elements-test.true, e.invariant.0))
+    let a = c.args in let x = c.node_at-x in let e = c.elements in let u = c.value_at in let o = c.parts in none_ends _ _ _ _ _ _ _ _ _ _ _ _ _ e.invariant.4 (omega (arith, c.elements-test.true, e.invariant.0))
     (value_in (set e.values x.result.level u.result)) (values_are a.env _ _ _ _ e.values e.invariant.2 u.ensures)
-    o.i o.invariant.3 d.result d.ensures
+    o.i o.invariant.3 _ (agree_is (eqb x.result.join 1) (eqb x.result.kind 1))
     (omega arith) c.if-decisive-2.false

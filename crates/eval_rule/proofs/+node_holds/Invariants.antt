@@ -16,13 +16,7 @@ abbrev pub invariant-parts : goal.invariant-parts
 invariant-parts l = (l.i ≤ l.many) × (l.i ≤ l.seen) × (l.answer ≡ not l.sought) × AllParts l.n l.lines (leaf_at l.facts l.picks l.n) l.v l.kind l.level l.many l.joins l.sought (value_in l.values) l.i
     × Passed l.n l.lines (leaf_at l.facts l.picks l.n) l.v l.level l.first l.many l.joins (value_in l.values) l.seen
 
-abbrev pub decreases-parts : goal.decreases-parts
-decreases-parts l = l.many - l.i
-
 abbrev pub invariant-elements : goal.invariant-elements
-invariant-elements l = (l.left ≤ l.turns) × (l.answer ≡ not l.sought) × Steady l.initial.values l.level l.values × Within l.n l.values
-    × AllTurns l.n l.lines (leaf_at l.facts l.picks l.n) l.v l.kind l.level l.many l.joins l.sought (value_in l.initial.values) (element_in l.lines l.range) l.turns (l.turns - l.left)
+invariant-elements l = (l.turn ≤ l.turns) × (l.answer ≡ not l.sought) × Steady l.initial.values l.level l.values × Within l.n l.values
+    × AllTurns l.n l.lines (leaf_at l.facts l.picks l.n) l.v l.kind l.level l.many l.joins l.sought (value_in l.initial.values) (element_in l.lines l.range) l.turns l.turn
     × Passed l.n l.lines (leaf_at l.facts l.picks l.n) l.v l.level l.first l.many l.joins (value_in l.initial.values) l.seen
-
-abbrev pub decreases-elements : goal.decreases-elements
-decreases-elements l = l.left

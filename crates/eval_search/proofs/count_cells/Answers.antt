@@ -14,12 +14,6 @@ bounds-table-1 c = omega arith
 pub overflow_add-sum : goal.overflow_add-sum
 overflow_add-sum c = omega (arith, line_few _ _ _ _ c.requires c.relation_line-line.ensures c.cells_in-sum.ensures)
 
-pub overflow_add-r : goal.overflow_add-r
-overflow_add-r c = omega arith
-
-pub loop-r-smaller : goal.loop-r-smaller
-loop-r-smaller c = omega arith
-
 pub loop-r-preserved : goal.loop-r-preserved
 loop-r-preserved c = (omega arith, omega (arith, line_few _ _ _ _ c.requires c.relation_line-line.ensures c.cells_in-sum.ensures), cells_sum _ _ _ _ _ c.relation_line-line.ensures c.cells_in-sum.ensures c.loop-r.invariant.2, c.loop-r.invariant.3, c.loop-r.invariant.4)
 

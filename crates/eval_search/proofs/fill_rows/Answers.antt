@@ -27,12 +27,6 @@ offset_bounds-words-at c = omega (arith, c.requires.0, c.loop-row-test.true)
 pub bounds-words-at : goal.bounds-words-at
 bounds-words-at c = omega (arith, c.requires.0, c.loop-row-test.true, c.loop-row.invariant.1)
 
-pub overflow_add-row : goal.overflow_add-row
-overflow_add-row c = omega (arith, c.loop-row-test.true)
-
-pub loop-row-smaller : goal.loop-row-smaller
-loop-row-smaller c = omega (arith, c.loop-row-test.true)
-
 pub loop-row-preserved : goal.loop-row-preserved
 loop-row-preserved c = let f = filled_more _ _ _ _ _ _ _ _ c.loop-row.invariant.2 (omega (arith, c.requires.0, c.loop-row-test.true)) c.lane_word.ensures in (omega (arith, c.loop-row-test.true), f.long, f)
 

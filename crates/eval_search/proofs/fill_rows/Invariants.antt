@@ -1,4 +1,4 @@
-use Prim.Native.Nat.{◌-◌, ◌≤◌}
+use Prim.Native.Nat.{◌≤◌}
 use mathlib.Core.Path.{◌≡◌}
 use lib.ListN.{length}
 use Rattle.eval_search.specs.Lanes.{number_in}
@@ -7,6 +7,3 @@ use Rattle.eval_search.proofs.fill_rows.Given as goal
 
 abbrev pub invariant-loop-row : goal.invariant-loop-row
 invariant-loop-row l = (l.row ≤ l.count) × (length l.words ≡ length l.initial.words) × Filled (number_in l.lanes.top l.lanes.low l.keeps) l.left l.at l.row l.keeps l.initial.words l.words
-
-abbrev pub decreases-loop-row : goal.decreases-loop-row
-decreases-loop-row l = l.count - l.row

@@ -34,12 +34,6 @@ overflow_add-word c = let f = walk_few _ _ _ _ _ _ _ c.requires.0 (omega (arith,
 pub overflow_sub-left : goal.overflow_sub-left
 overflow_sub-left c = let f = walk_few _ _ _ _ _ _ _ c.requires.0 (omega (arith, c.loop-r-test.true)) c.relation_line-line.ensures c.cells_in-count.ensures c.loop-r.invariant.2 c.loop-r.invariant.1 in omega (arith, f.0)
 
-pub overflow_add-r : goal.overflow_add-r
-overflow_add-r c = omega (arith, c.loop-r-test.true, c.loop-r.invariant.5)
-
-pub loop-r-smaller : goal.loop-r-smaller
-loop-r-smaller c = omega (arith, c.loop-r-test.true)
-
 pub loop-r-preserved : goal.loop-r-preserved
 loop-r-preserved c =
     let i = c.loop-r.invariant in let l = c.loop-r-test.true in let e = c.relation_line-line.ensures in let k = c.cells_in-count.ensures in let f = walk_few _ _ _ _ _ _ _ c.requires.0 (omega (arith, l)) e k i.2 i.1 in

@@ -20,12 +20,6 @@ overflow_shr-w c = omega arith
 pub overflow_add-w-in-loop-i : goal.overflow_add-w-in-loop-i
 overflow_add-w-in-loop-i c = omega arith
 
-pub overflow_add-i : goal.overflow_add-i
-overflow_add-i c = omega arith
-
-pub loop-i-smaller : goal.loop-i-smaller
-loop-i-smaller c = omega arith
-
 pub loop-i-preserved : goal.loop-i-preserved
 loop-i-preserved c = let e = rows_next _ _ _ _ _ c.loop-i.invariant.1 in (omega arith, e, rows_few _ _ _ _ _ (omega arith) e)
 

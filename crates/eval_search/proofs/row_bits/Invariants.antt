@@ -5,6 +5,3 @@ use Rattle.eval_search.proofs.row_bits.Given as goal
 
 abbrev pub invariant-loop-i : goal.invariant-loop-i
 invariant-loop-i l = (l.i ≤ l.count) × (l.w ≡ word (λ k. digit l.m (l.left - l.count + l.i - 1 - k)) l.i) × (l.w < 2 ^ 20)
-
-abbrev pub decreases-loop-i : goal.decreases-loop-i
-decreases-loop-i l = l.count - l.i

@@ -7,6 +7,3 @@ use Rattle.eval_table.proofs.bits_of.Given as goal
 
 abbrev pub invariant-loop-r : goal.invariant-loop-r
 invariant-loop-r l = (l.r ≤ 18) × (l.facts ≡ fact_sum l.n l.g l.r) × (l.picks ≡ choose_sum l.n l.g l.r) × (l.facts ≤ l.r * 262145) × (l.picks ≤ l.r * 262145) × ((u : ℕ) → u < l.r → get_or l.bits u 0 ≡ bit_of l.n l.g u) × Most l.bits (2 ^ 32) × (length l.bits ≡ 18)
-
-abbrev pub decreases-loop-r : goal.decreases-loop-r
-decreases-loop-r l = 18 - l.r

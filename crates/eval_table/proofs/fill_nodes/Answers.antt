@@ -44,12 +44,6 @@ overflow_mul-v c = omega (arith, few (goal.at.overflow_mul-v c).In-loop-v)
 pub store-requires : goal.store-requires
 store-requires c = omega (arith, few (goal.at.store-requires c).In-loop-v, c.requires.0, c.loop-v.invariant.1)
 
-pub overflow_add-v : goal.overflow_add-v
-overflow_add-v c = omega (arith, few (goal.at.overflow_add-v c).In-loop-v)
-
-pub loop-v-smaller : goal.loop-v-smaller
-loop-v-smaller c = omega (arith, c.loop-v-test.true)
-
 pub loop-v-preserved : goal.loop-v-preserved
 loop-v-preserved c =
     let l = c.loop-v in let e = c.node_line-line.ensures in let q = e.0 ∙ ap (λ (σ : ℕ). node_numbers (node_of (get_or c.args.ranges.count σ 0) c.args.t (get_or c.args.t.rows l.v no_node))) c.wide.ensures.0 in (

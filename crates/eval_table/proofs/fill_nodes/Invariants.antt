@@ -9,6 +9,3 @@ use Rattle.eval_table.proofs.fill_nodes.Given as goal
 
 abbrev pub invariant-loop-v : goal.invariant-loop-v
 invariant-loop-v l = (l.v ≤ l.t.count) × (length l.lines ≡ length l.initial.lines) × (l.lines ≡ splice 0 (tab (node_lines l.ranges.count l.t) l.v) l.initial.lines) × ((u : ℕ) → u < l.v → Most (node_lines l.ranges.count l.t u) (2 ^ 32))
-
-abbrev pub decreases-loop-v : goal.decreases-loop-v
-decreases-loop-v l = l.t.count - l.v

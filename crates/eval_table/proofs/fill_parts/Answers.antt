@@ -31,17 +31,8 @@ part_line-line-requires c =
 pub overflow_mul-i : goal.overflow_mul-i
 overflow_mul-i c = omega (arith, c.requires.4.few_parts)
 
-pub overflow_add-i : goal.overflow_add-i
-overflow_add-i c = omega (arith, c.requires.4.few_parts)
-
 pub store-requires : goal.store-requires
 store-requires c = omega (arith, c.requires.4.few_parts, c.requires.0, c.loop-i.invariant.1)
-
-pub overflow_add-i-in-loop-i : goal.overflow_add-i-in-loop-i
-overflow_add-i-in-loop-i c = omega (arith, c.requires.4.few_parts)
-
-pub loop-i-smaller : goal.loop-i-smaller
-loop-i-smaller c = omega (arith, c.requires.4.few_parts)
 
 -- src/lib.rt:213:5
 pub loop-i-preserved : goal.loop-i-preserved

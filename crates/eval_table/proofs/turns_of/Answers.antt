@@ -17,12 +17,6 @@ returns-then-levels-i c =
     let wide-there = c.wide-width in let len : length c.args.q.levels ≡ 4 = search rules in
     (turns_all c.args.count c.args.level c.args.q wide-there.result wide-there.ensures c.loop-i.i (omega arith) (omega (arith, wide-there.ensures.0, c.requires.1.width)) c.if-levels-i.true, c.requires.0)
 
-pub overflow_add-i : goal.overflow_add-i
-overflow_add-i c = omega arith
-
-pub loop-i-smaller : goal.loop-i-smaller
-loop-i-smaller c = omega arith
-
 pub loop-i-preserved : goal.loop-i-preserved
 loop-i-preserved c = (omega arith, below_more _ _ c.loop-i.invariant.1 c.if-levels-i.false)
 

@@ -5,6 +5,3 @@ use Rattle.eval_table.proofs.turns_of.Given as goal
 
 abbrev pub invariant-loop-i : goal.invariant-loop-i
 invariant-loop-i l = (l.i ≤ l.width) × ((k : ℕ) → k < l.i → get_or l.levels k 0 ≡ l.level → ⊥)
-
-abbrev pub decreases-loop-i : goal.decreases-loop-i
-decreases-loop-i l = l.width - l.i

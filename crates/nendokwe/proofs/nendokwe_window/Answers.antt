@@ -1,13 +1,15 @@
 -- `nendokwe::nendokwe_window` meets its contract: the two numbers, or a refusal that leaves them. Assumes nothing.
+use Rattle.std.proofs.Common.{◌∙◌}
 use Rattle.nendokwe.specs.Told.{window_told, window_refused}
 use Rattle.nendokwe.proofs.nendokwe_window.Goals as goal
 
-pub returns-in-Window : goal.returns-in-Window
-returns-in-Window c =
-    let told = window_told _ _ c.window-r.ensures _ _ _ _ c.in-Window.is in
+pub returns-in-Ok : goal.returns-in-Ok
+returns-in-Ok c =
+    let told = window_told _ _ _ _ c.in-Ok.ensures in
     record { number_after = told.0; place_after = told.1.0; lower_after = told.1.1.0; upper_after = told.1.1.1 }
 
-pub returns-in-Refused : goal.returns-in-Refused
-returns-in-Refused c =
-    let told = window_refused _ _ c.window-r.ensures _ _ _ _ c.in-Refused.is in
-    record { number_after = told.0; place_after = told.1.0; lower_after = told.1.1.0; upper_after = told.1.1.1 }
+pub returns-in-Err : goal.returns-in-Err
+returns-in-Err c =
+    let told = window_refused _ _ _ _ c.in-Err.ensures in
+    let t = c.tell_refusal.ensures in
+    record { number_after = t.number_after ∙ told.0; place_after = t.place_after ∙ told.1.0; lower_after = told.1.1.0; upper_after = told.1.1.1 }

@@ -8,5 +8,5 @@ slice_bounds-run-end-2 c = let copied = c.copy in list_there _ _ _ copied.new.ds
 
 pub returns : goal.returns
 returns c =
-    λ p serves. c.verdict_of.ensures ∙ copy_ran _ _ _ c.copy.new.dst _ c.requires.0 c.copy.ensures.0 p serves _ _
+    λ p serves. c.reply_of.ensures ∙ copy_ran _ _ _ c.copy.new.dst _ c.requires.0 c.copy.ensures.0 p serves _ _
     (λ x i r. ((c.run-e.ensures x i r).0, tt))

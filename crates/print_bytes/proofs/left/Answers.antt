@@ -5,5 +5,5 @@ use Rattle.print_bytes.proofs.left.Goals as goal
 
 pub returns : goal.returns
 returns c =
-    finish _ (then _ _ (begin c.args.out.now (left_is c.args.columns c.over.result _ c.over.ensures) (omega arith) (omega arith))
+    finish _ (then _ _ (begin c.args.out.now (left_is c.args.columns c.saturating_sub.result _ c.saturating_sub.ensures) (omega arith) (omega arith))
     c.text-next.ensures) c.spaces.ensures

@@ -7,6 +7,6 @@ use Rattle.print_bytes.proofs.left_number.Goals as goal
 
 pub returns : goal.returns
 returns c =
-    finish _ (then _ _ (begin c.args.out.now (left_is c.args.columns c.over.result _
-    (c.over.ensures ∙ ap (λ (d : Prim.Native.Nat.ℕ). c.args.columns - d) c.digits.ensures)) (omega arith) (omega arith))
+    finish _ (then _ _ (begin c.args.out.now (left_is c.args.columns c.saturating_sub.result _
+    (c.saturating_sub.ensures ∙ ap (λ (d : Prim.Native.Nat.ℕ). c.args.columns - d) c.digits.ensures)) (omega arith) (omega arith))
     c.decimal-next.ensures) c.spaces.ensures

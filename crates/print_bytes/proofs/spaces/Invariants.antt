@@ -4,7 +4,4 @@ use Rattle.print_bytes.specs.Emitted.{Left}
 use Rattle.print_bytes.proofs.spaces.Given as goal
 
 abbrev pub invariant-loop-left : goal.invariant-loop-left
-invariant-loop-left l = Left (spaces l.count) l.initial.out l.at (spaces l.left) l.out l.next
-
-abbrev pub decreases-loop-left : goal.decreases-loop-left
-decreases-loop-left l = l.left
+invariant-loop-left l = Left (spaces l.count) l.initial.out l.at (spaces l._left) l.out l.next

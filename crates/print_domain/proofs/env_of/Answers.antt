@@ -8,9 +8,6 @@ use Rattle.print_domain.proofs.env_of.Goals as goal
 pub loop-i-init : goal.loop-i-init
 loop-i-init c = (omega (arith, c.wide-i.ensures.0, c.requires.0), refl, refl)
 
-pub overflow_sub-i : goal.overflow_sub-i
-overflow_sub-i c = omega arith
-
 pub bounds-levels-i : goal.bounds-levels-i
 bounds-levels-i c = omega (arith, c.loop-i.invariant.0)
 
@@ -19,9 +16,6 @@ offset_bounds-terms-l c = omega (arith, c.wide-l.ensures.0, c.requires.1 (c.loop
 
 pub bounds-terms-l : goal.bounds-terms-l
 bounds-terms-l c = omega (arith, c.wide-l.ensures.0, c.requires.1 (c.loop-i.i - 1))
-
-pub loop-i-smaller : goal.loop-i-smaller
-loop-i-smaller c = omega arith
 
 pub loop-i-preserved : goal.loop-i-preserved
 loop-i-preserved c = (omega (arith, c.loop-i.invariant.0), length-set c.loop-i.terms _ (c.loop-i.i - 1) ∙ c.loop-i.invariant.1, c.loop-i.invariant.2 ∙ env_next c.args.row.levels c.loop-i.i (c.loop-i.i - 1) _ c.loop-i.terms (omega arith) c.wide-l.ensures.0)

@@ -7,6 +7,3 @@ use Rattle.print_domain.proofs.env_of.Given as goal
 
 abbrev pub invariant-loop-i : goal.invariant-loop-i
 invariant-loop-i l = (l.i ≤ 4) × (length l.terms ≡ 4) × (env_from l.levels l.initial.i no_env ≡ env_from l.levels l.i l.terms)
-
-abbrev pub decreases-loop-i : goal.decreases-loop-i
-decreases-loop-i l = l.i

@@ -7,12 +7,6 @@ use Rattle.print_domain.proofs.further.Goals as goal
 pub loop-i-init : goal.loop-i-init
 loop-i-init c = (omega arith, begin _ refl (omega arith) (omega arith))
 
-pub overflow_add-i : goal.overflow_add-i
-overflow_add-i c = omega (arith, c.loop-i.invariant.0)
-
-pub loop-i-smaller : goal.loop-i-smaller
-loop-i-smaller c = omega arith
-
 pub loop-i-preserved : goal.loop-i-preserved
 loop-i-preserved c = (omega (arith, c.requires), then _ _ (then _ _ (recut (params_next c.loop-i.i c.args.count (omega arith)) c.loop-i.invariant.1) c.byte-spaced.ensures) c.parameter_word-next.ensures)
 

@@ -8,6 +8,3 @@ use Rattle.print_domain.proofs.further.Given as goal
 
 abbrev pub invariant-loop-i : goal.invariant-loop-i
 invariant-loop-i l = (l.i ≤ 7) × Left (write_each parameter_word (from 1 (l.count - 1))) l.initial.out l.at (write_each parameter_word (from l.i (l.count - l.i))) l.out l.next
-
-abbrev pub decreases-loop-i : goal.decreases-loop-i
-decreases-loop-i l = l.count - l.i

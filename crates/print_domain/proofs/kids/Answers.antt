@@ -16,12 +16,6 @@ loop-k-init c = (omega arith, begin _ (kids_many _ _ c.args.t c.args.v c.args.en
 pub kid-next-requires : goal.kid-next-requires
 kid-next-requires c = (c.requires.0, c.requires.1, c.requires.2, omega (arith, c.wide-many.ensures.0, (c.requires.1.nodes.node c.args.v).parts, c.requires.1.few_parts))
 
-pub overflow_add-k : goal.overflow_add-k
-overflow_add-k c = omega (arith, c.wide-many.ensures.1)
-
-pub loop-k-smaller : goal.loop-k-smaller
-loop-k-smaller c = omega arith
-
 pub loop-k-preserved : goal.loop-k-preserved
 loop-k-preserved c = (omega arith, then _ _ (recut (flat_next _ c.loop-k.k c.wide-many.result (omega arith)) c.loop-k.invariant.1) c.kid-next.ensures)
 

@@ -7,6 +7,3 @@ use Rattle.print_domain.proofs.kids.Given as goal
 
 abbrev pub invariant-loop-k : goal.invariant-loop-k
 invariant-loop-k l = (l.k ≤ l.many) × Left (flat_map (kid_text l.question l.names l.t l.v l.end) (below (row_at l.t l.v).many)) l.initial.out l.at (flat_map (kid_text l.question l.names l.t l.v l.end) (from l.k (l.many - l.k))) l.out l.next
-
-abbrev pub decreases-loop-k : goal.decreases-loop-k
-decreases-loop-k l = l.many - l.k

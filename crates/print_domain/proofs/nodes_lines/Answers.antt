@@ -23,12 +23,6 @@ parameters-places-requires c = omega (arith, c.node_places.ensures.1)
 pub line-next-requires : goal.line-next-requires
 line-next-requires c = (c.requires.0, proved_fits _ _, c.parameters-places.ensures.0)
 
-pub overflow_add-v : goal.overflow_add-v
-overflow_add-v c = omega (arith, c.requires.1.few)
-
-pub loop-v-smaller : goal.loop-v-smaller
-loop-v-smaller c = omega arith
-
 pub loop-v-preserved : goal.loop-v-preserved
 loop-v-preserved c = (
   omega arith,

@@ -11,12 +11,6 @@ loop-v-init c = (omega arith, begin _ (flat_first _ _) (omega arith) (omega arit
 pub node_schemas-next-requires : goal.node_schemas-next-requires
 node_schemas-next-requires c = (c.requires.0, c.requires.1, c.requires.2, omega arith)
 
-pub overflow_add-v : goal.overflow_add-v
-overflow_add-v c = omega (arith, c.requires.1.few)
-
-pub loop-v-smaller : goal.loop-v-smaller
-loop-v-smaller c = omega arith
-
 pub loop-v-preserved : goal.loop-v-preserved
 loop-v-preserved c = (omega arith, then _ _ (recut (flat_next _ c.loop-v.v c.args.t.count (omega arith)) c.loop-v.invariant.1) c.node_schemas-next.ensures)
 

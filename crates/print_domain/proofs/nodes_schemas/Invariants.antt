@@ -7,6 +7,3 @@ use Rattle.print_domain.proofs.nodes_schemas.Given as goal
 
 abbrev pub invariant-loop-v : goal.invariant-loop-v
 invariant-loop-v l = (l.v ≤ l.t.count) × Left (nodes_text l.question l.names l.t l.end) l.initial.out l.at (flat_map (λ i. node_text l.question l.names l.t i l.end) (from l.v (l.t.count - l.v))) l.out l.next
-
-abbrev pub decreases-loop-v : goal.decreases-loop-v
-decreases-loop-v l = l.t.count - l.v

@@ -16,12 +16,6 @@ loop-i-init c = (omega arith, begin _ (ors_many _ _ c.args.t c.args.v c.args.end
 pub or_schema-next-requires : goal.or_schema-next-requires
 or_schema-next-requires c = (c.requires.0, c.requires.1, c.requires.2, omega (arith, c.wide-many.ensures.0, (c.requires.1.nodes.node c.args.v).parts, c.requires.1.few_parts))
 
-pub overflow_add-i : goal.overflow_add-i
-overflow_add-i c = omega (arith, c.wide-many.ensures.1)
-
-pub loop-i-smaller : goal.loop-i-smaller
-loop-i-smaller c = omega arith
-
 pub loop-i-preserved : goal.loop-i-preserved
 loop-i-preserved c = (omega arith, then _ _ (recut (flat_next _ c.loop-i.i c.wide-many.result (omega arith)) c.loop-i.invariant.1) c.or_schema-next.ensures)
 

@@ -7,6 +7,3 @@ use Rattle.print_domain.proofs.or_schemas.Given as goal
 
 abbrev pub invariant-loop-i : goal.invariant-loop-i
 invariant-loop-i l = (l.i ≤ l.many) × Left (ors_text l.question l.names l.t l.v l.end) l.initial.out l.at (flat_map (or_text l.question l.names l.t l.v l.end) (from l.i (l.many - l.i))) l.out l.next
-
-abbrev pub decreases-loop-i : goal.decreases-loop-i
-decreases-loop-i l = l.many - l.i

@@ -27,12 +27,6 @@ bounds-env-l c = omega (arith, c.wide-l.ensures.0, c.requires.levels c.loop-i.i)
 pub with_term-t-requires : goal.with_term-t-requires
 with_term-t-requires c = (omega (arith, c.loop-i.invariant.2, c.wide-width.ensures.0, c.requires.width), c.loop-i.invariant.1)
 
-pub overflow_add-i : goal.overflow_add-i
-overflow_add-i c = omega (arith, c.wide-width.ensures.0, c.requires.width)
-
-pub loop-i-smaller : goal.loop-i-smaller
-loop-i-smaller c = omega arith
-
 pub loop-i-preserved : goal.loop-i-preserved
 loop-i-preserved c = (
   omega arith,

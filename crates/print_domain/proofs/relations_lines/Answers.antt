@@ -23,12 +23,6 @@ bounds-g-r-in-loop-r c = omega (arith, c.requires.1.fit.count)
 pub relation_lines-next-requires : goal.relation_lines-next-requires
 relation_lines-next-requires c = (c.requires.0, omega (arith, c.requires.1.fit.count), c.requires.1.placed c.loop-r.r (omega arith))
 
-pub overflow_add-r : goal.overflow_add-r
-overflow_add-r c = omega (arith, c.requires.1.fit.count)
-
-pub loop-r-smaller : goal.loop-r-smaller
-loop-r-smaller c = omega arith
-
 pub loop-r-preserved : goal.loop-r-preserved
 loop-r-preserved c = (omega arith, then _ _ (recut (flat_next _ c.loop-r.r c.args.g.count (omega arith)) c.loop-r.invariant.1) c.relation_lines-next.ensures)
 

@@ -8,6 +8,3 @@ use Rattle.print_domain.proofs.relations_lines.Given as goal
 
 abbrev pub invariant-loop-r : goal.invariant-loop-r
 invariant-loop-r l = (l.r ≤ l.g.count) × Left (relations_lines l.question l.names l.g) l.initial.out l.at (flat_map (λ i. relation_lines l.question l.names i (get_or l.g.arity i 0) (get_or l.g.kind i 0)) (from l.r (l.g.count - l.r))) l.out l.next
-
-abbrev pub decreases-loop-r : goal.decreases-loop-r
-decreases-loop-r l = l.g.count - l.r

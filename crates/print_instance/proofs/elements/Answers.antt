@@ -10,20 +10,11 @@ parameters-none-requires c = omega arith
 pub loop-x-init : goal.loop-x-init
 loop-x-init c = (omega arith, begin _ (flat_first _ _) (omega arith) (omega arith))
 
-pub overflow_add-x : goal.overflow_add-x
-overflow_add-x c = omega (arith, c.requires.2)
-
 pub with_term-only-requires : goal.with_term-only-requires
 with_term-only-requires c = (omega (arith, c.parameters-none.ensures.1), c.parameters-none.ensures.0)
 
 pub line-next-requires : goal.line-next-requires
 line-next-requires c = (c.requires.0, c.requires.1, c.with_term-only.ensures.0)
-
-pub overflow_add-x-in-loop-x : goal.overflow_add-x-in-loop-x
-overflow_add-x-in-loop-x c = omega (arith, c.requires.2)
-
-pub loop-x-smaller : goal.loop-x-smaller
-loop-x-smaller c = omega arith
 
 pub loop-x-preserved : goal.loop-x-preserved
 loop-x-preserved c = (omega arith, then _ _ (recut (flat_next _ c.loop-x.x c.args.n (omega arith)) c.loop-x.invariant.1) (emits_as (element_is _ _ _ _ _ (only_code _ _ _ c.parameters-none.ensures.2 c.with_term-only.ensures.2)) c.line-next.ensures))

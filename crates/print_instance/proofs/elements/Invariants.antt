@@ -7,6 +7,3 @@ use Rattle.print_instance.proofs.elements.Given as goal
 
 abbrev pub invariant-loop-x : goal.invariant-loop-x
 invariant-loop-x l = (l.x ≤ l.n) × Left (flat_map (elements_text l.question l.names l.w) (below l.n)) l.initial.out l.at (flat_map (elements_text l.question l.names l.w) (from l.x (l.n - l.x))) l.out l.next
-
-abbrev pub decreases-loop-x : goal.decreases-loop-x
-decreases-loop-x l = l.n - l.x

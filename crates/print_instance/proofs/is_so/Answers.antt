@@ -31,7 +31,7 @@ pub overflow_add-k : goal.overflow_add-k
 overflow_add-k c = omega (arith, c.requires.0.first, row_small c.args.before c.args.k.n c.args.z c.requires.1 c.requires.0.few c.requires.2)
 
 pub returns-then-k-eq0 : goal.returns-then-k-eq0
-returns-then-k-eq0 c = c.fact.ensures ∙ is_fact c.args.facts.now c.args.k.n c.args.k.r c.args.k.kind c.args.k.first (c.args.before * c.args.k.n + c.args.z) (omega (arith, c.if-k-lt5.false)) c.if-k-eq0.true
+returns-then-k-eq0 c = c.test.ensures ∙ is_fact c.args.facts.now c.args.k.n c.args.k.r c.args.k.kind c.args.k.first (c.args.before * c.args.k.n + c.args.z) (omega (arith, c.if-k-lt5.false)) c.if-k-eq0.true
 
 pub returns : goal.returns
 returns c = is_unpicked c.args.facts.now c.args.k.n c.args.k.r c.args.k.kind c.args.k.first (c.args.before * c.args.k.n + c.args.z) (omega (arith, c.if-k-lt5.false)) c.if-k-eq0.false

@@ -4,22 +4,13 @@ use Rattle.print_instance.specs.Texts.{object_next, object_end, object_first}
 use Rattle.print_instance.proofs.objects.Goals as goal
 
 pub loop-x-init : goal.loop-x-init
-loop-x-init c = (omega arith, begin _ (object_first _) (omega arith) (omega arith))
-
-pub overflow_add-x : goal.overflow_add-x
-overflow_add-x c = omega (arith, c.loop-x.invariant.0)
-
-pub overflow_add-x-in-loop-x : goal.overflow_add-x-in-loop-x
-overflow_add-x-in-loop-x c = omega (arith, c.loop-x.invariant.0)
-
-pub loop-x-smaller : goal.loop-x-smaller
-loop-x-smaller c = omega arith
+loop-x-init c = begin _ (object_first _) (omega arith) (omega arith)
 
 pub loop-x-preserved : goal.loop-x-preserved
-loop-x-preserved c = (omega (arith, c.requires), then _ _ (then _ _ (recut (object_next c.loop-x.x c.args.n (omega arith)) c.loop-x.invariant.1) c.byte-spaced.ensures) c.object_word-next.ensures)
+loop-x-preserved c = then _ _ (then _ _ (recut (object_next c.loop-x.x c.args.n (omega arith)) c.loop-x.invariant) c.byte-spaced.ensures) c.object_word-next.ensures
 
 pub shape_of-out : goal.shape_of-out
-shape_of-out c = c.loop-x.invariant.1.size
+shape_of-out c = c.loop-x.invariant.size
 
 pub returns : goal.returns
-returns c = finished (recut (object_end c.loop-x.x c.args.n (omega arith)) c.loop-x.invariant.1)
+returns c = finished (recut (object_end c.loop-x.x c.args.n (omega arith)) c.loop-x.invariant)

@@ -30,12 +30,6 @@ words-first-requires c = (c.requires.1.some, c.requires.1.few, (c.requires.1.pla
 pub overflow_add-first : goal.overflow_add-first
 overflow_add-first c = omega (arith, first_small c.args.n c.args.g c.loop-r.r c.loop-r.first _ c.requires.1 (omega arith) c.loop-r.invariant.1 c.words-first.ensures)
 
-pub overflow_add-r : goal.overflow_add-r
-overflow_add-r c = omega (arith, c.requires.1.fit.count)
-
-pub loop-r-smaller : goal.loop-r-smaller
-loop-r-smaller c = omega arith
-
 pub loop-r-preserved : goal.loop-r-preserved
 loop-r-preserved c = (
   omega arith,

@@ -4,7 +4,7 @@ use mathlib.Core.Path.{subst, sym, ◌∙◌}
 use Rattle.print_bytes.specs.Emitted.{begin, recut, next as then, finished, emits_as}
 use Rattle.print_words.specs.Loops.{flat_more, flat_stop}
 use Rattle.print_words.specs.Words.{WordFits}
-use Rattle.print_instance.specs.Texts.{run_first, row_is, row_codes, word_fits, before_small}
+use Rattle.print_instance.specs.Texts.{agree_is, run_first, row_is, row_codes, word_fits, before_small}
 use Rattle.print_instance.proofs.run.Goals as goal
 
 pub overflow_sub-k : goal.overflow_sub-k
@@ -19,26 +19,17 @@ loop-z-init c = (omega arith, begin _ (run_first _ _ _) (omega arith) (omega ari
 pub is_so-requires : goal.is_so-requires
 is_so-requires c = (c.requires.1, before_small c.args.k c.args.before c.requires.1 c.requires.2, omega arith)
 
-pub overflow_add-z : goal.overflow_add-z
-overflow_add-z c = omega (arith, c.requires.1.few)
-
 pub with_term-whole-requires : goal.with_term-whole-requires
 with_term-whole-requires c = (omega (arith, c.places-t.ensures.1, c.requires.1.places), c.places-t.ensures.0)
 
 pub line_if-next-requires : goal.line_if-next-requires
 line_if-next-requires c = (c.requires.0, subst WordFits (sym c.word_for-w.ensures) (word_fits c.args.k.holds c.args.k.r c.requires.1.number), c.with_term-whole.ensures.0)
 
-pub overflow_add-z-in-loop-z : goal.overflow_add-z-in-loop-z
-overflow_add-z-in-loop-z c = omega (arith, c.requires.1.few)
-
-pub loop-z-smaller : goal.loop-z-smaller
-loop-z-smaller c = omega arith
-
 pub loop-z-preserved : goal.loop-z-preserved
 loop-z-preserved c = (
   omega arith,
   then _ _ (recut (flat_more _ (c.args.before * c.args.k.n) c.loop-z.z c.args.k.n (omega arith)) c.loop-z.invariant.1)
-      (emits_as (row_is c.args.question.now c.args.names.now c.args.facts.now c.args.k (c.args.before * c.args.k.n + c.loop-z.z) _ _ _ _ c.is_so.ensures c.agrees-is.ensures c.word_for-w.ensures
+      (emits_as (row_is c.args.question.now c.args.names.now c.args.facts.now c.args.k (c.args.before * c.args.k.n + c.loop-z.z) _ _ _ _ c.is_so.ensures (agree_is _ _) c.word_for-w.ensures
       (c.with_term-whole.ensures.2 ∙ row_codes c.args.k c.args.before c.loop-z.z _ c.requires.1 c.requires.2 (omega arith) c.places-t.ensures.2)) c.line_if-next.ensures),
 )
 

@@ -7,6 +7,3 @@ use Rattle.print_instance.proofs.run.Given as goal
 
 abbrev pub invariant-loop-z : goal.invariant-loop-z
 invariant-loop-z l = (l.z ≤ l.k.n) × Left (flat_map (row_text l.question l.names l.facts l.k) (from (l.before * l.k.n) l.k.n)) l.initial.out l.at (flat_map (row_text l.question l.names l.facts l.k) (from (l.before * l.k.n + l.z) (l.k.n - l.z))) l.out l.next
-
-abbrev pub decreases-loop-z : goal.decreases-loop-z
-decreases-loop-z l = l.k.n - l.z

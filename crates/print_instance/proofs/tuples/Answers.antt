@@ -17,12 +17,6 @@ loop-before-init c = (omega arith, begin _ (tuples_first _ _ _ _ _ c.power-runs.
 pub run-next-requires : goal.run-next-requires
 run-next-requires c = (c.requires.0, c.requires.1, omega (arith, c.power-runs.ensures))
 
-pub overflow_add-before : goal.overflow_add-before
-overflow_add-before c = omega arith
-
-pub loop-before-smaller : goal.loop-before-smaller
-loop-before-smaller c = omega arith
-
 pub loop-before-preserved : goal.loop-before-preserved
 loop-before-preserved c = (omega arith, then _ _ (recut (flat_next (run_text c.args.question.now c.args.names.now c.args.facts.now c.args.k) c.loop-before.before _ (omega arith)) c.loop-before.invariant.1) c.run-next.ensures)
 

@@ -7,6 +7,3 @@ use Rattle.print_instance.proofs.tuples.Given as goal
 
 abbrev pub invariant-loop-before : goal.invariant-loop-before
 invariant-loop-before l = (l.before ≤ l.runs) × Left (tuples_text l.question l.names l.facts l.k) l.initial.out l.at (flat_map (run_text l.question l.names l.facts l.k) (from l.before (l.runs - l.before))) l.out l.next
-
-abbrev pub decreases-loop-before : goal.decreases-loop-before
-decreases-loop-before l = l.runs - l.before

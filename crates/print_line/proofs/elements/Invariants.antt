@@ -7,7 +7,4 @@ use Rattle.print_line.specs.Lines.{elements}
 use Rattle.print_line.proofs.elements.Given as goal
 
 abbrev pub invariant-loop-left : goal.invariant-loop-left
-invariant-loop-left l = (l.width ≡ l.n ^ l.left) × Left (elements l.site l.labels (places_of l.n l.arity l.row)) l.initial.out l.at (elements l.site l.labels (places_of l.n l.left l.row)) l.out l.next
-
-abbrev pub decreases-loop-left : goal.decreases-loop-left
-decreases-loop-left l = l.left
+invariant-loop-left l = (l.width ≡ l.n ^ l._left) × Left (elements l.site l.labels (places_of l.n l.arity l.row)) l.initial.out l.at (elements l.site l.labels (places_of l.n l._left l.row)) l.out l.next

@@ -7,19 +7,13 @@ use Rattle.print_page.proofs.blanks.Goals as goal
 pub loop-left-init : goal.loop-left-init
 loop-left-init c = begin _ refl (omega arith) (omega arith)
 
-pub overflow_sub-left : goal.overflow_sub-left
-overflow_sub-left c = omega arith
-
-pub loop-left-smaller : goal.loop-left-smaller
-loop-left-smaller c = omega arith
-
 pub loop-left-preserved : goal.loop-left-preserved
 loop-left-preserved c =
-    then _ _ (then _ _ (recut (blank_next c.loop-left.left (omega arith))
+    then _ _ (then _ _ (recut (blank_next c.loop-left._left (omega arith))
     c.loop-left.invariant) c.spaces-filled.ensures) c.byte-next.ensures
 
 pub shape_of-out : goal.shape_of-out
 shape_of-out c = c.loop-left.invariant.size
 
 pub returns : goal.returns
-returns c = finished (recut (no_blank c.loop-left.left (omega arith)) c.loop-left.invariant)
+returns c = finished (recut (no_blank c.loop-left._left (omega arith)) c.loop-left.invariant)

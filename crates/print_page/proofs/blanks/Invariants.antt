@@ -6,7 +6,4 @@ use Rattle.print_bytes.specs.Emitted.{Left}
 use Rattle.print_page.proofs.blanks.Given as goal
 
 abbrev pub invariant-loop-left : goal.invariant-loop-left
-invariant-loop-left l = Left (flat_map ended_line (replicate l.count blank_line)) l.initial.out l.at (flat_map ended_line (replicate l.left blank_line)) l.out l.next
-
-abbrev pub decreases-loop-left : goal.decreases-loop-left
-decreases-loop-left l = l.left
+invariant-loop-left l = Left (flat_map ended_line (replicate l.count blank_line)) l.initial.out l.at (flat_map ended_line (replicate l._left blank_line)) l.out l.next

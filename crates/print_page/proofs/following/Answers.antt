@@ -23,12 +23,6 @@ overflow_cast-k c = omega (arith, c.type_inv.steps c.loop-i.i)
 pub step-next-requires : goal.step-next-requires
 step-next-requires c = c.requires
 
-pub overflow_add-i : goal.overflow_add-i
-overflow_add-i c = omega arith
-
-pub loop-i-smaller : goal.loop-i-smaller
-loop-i-smaller c = omega arith
-
 pub loop-i-preserved : goal.loop-i-preserved
 loop-i-preserved c = (
   search rules,

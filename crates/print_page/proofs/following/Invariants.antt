@@ -1,7 +1,6 @@
 -- `print_page::following` meets its contract.
 use mathlib.Core.Path.{◌≡◌}
 use mathlib.Core.List.{List}
-use Prim.Native.Nat.{◌-◌}
 use lib.ListN.{length}
 use Rattle.definitions.specs.Lists.{flat_map}
 use Rattle.definitions.specs.Sheet.Sheets.{Label}
@@ -19,6 +18,3 @@ abbrev pub invariant-loop-i : goal.invariant-loop-i
 invariant-loop-i l = (length l.out ≡ length l.initial.out) ×
     ((p : Problem) (ls : List Label) → Is p l.table → NamesAre p l.question l.names → said_by l.site l.labels ≡ said ls → Left (flat_map ended_line (rest_from ls p l.steps l.from)) l.initial.out l.at
     (flat_map ended_line (rest_from ls p l.steps l.i)) l.out l.next)
-
-abbrev pub decreases-loop-i : goal.decreases-loop-i
-decreases-loop-i l = length l.steps - l.i

@@ -75,12 +75,6 @@ offset_bounds-names-i-in-loop-i-2 c = omega (arith, c.loop-i.invariant.1, c.loop
 pub bounds-names-i-in-loop-i-2 : goal.bounds-names-i-in-loop-i-2
 bounds-names-i-in-loop-i-2 c = simp length-set (omega (arith, c.loop-i.invariant.1, c.loop-i.invariant.5.room))
 
-pub overflow_add-i : goal.overflow_add-i
-overflow_add-i c = omega arith
-
-pub loop-i-smaller : goal.loop-i-smaller
-loop-i-smaller c = omega arith
-
 pub loop-i-preserved : goal.loop-i-preserved
 loop-i-preserved c = (
   omega arith,

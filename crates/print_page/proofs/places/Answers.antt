@@ -9,9 +9,6 @@ use Rattle.print_page.proofs.places.Goals as goal
 pub loop-i-init : goal.loop-i-init
 loop-i-init c = (omega arith, refl, rest_first c.args.n c.args.row c.args.count, places_first c.args.n c.args.row c.args.count c.args.values.now, c.requires.2)
 
-pub overflow_sub-i : goal.overflow_sub-i
-overflow_sub-i c = omega arith
-
 pub nonzero_rem-values : goal.nonzero_rem-values
 nonzero_rem-values c = omega arith
 
@@ -20,9 +17,6 @@ bounds-values-i c = omega (arith, c.requires.1, c.loop-i.invariant.1)
 
 pub nonzero_div-rest : goal.nonzero_div-rest
 nonzero_div-rest c = omega arith
-
-pub loop-i-smaller : goal.loop-i-smaller
-loop-i-smaller c = omega arith
 
 pub loop-i-preserved : goal.loop-i-preserved
 loop-i-preserved c = (

@@ -8,6 +8,3 @@ use Rattle.print_page.proofs.places.Given as goal
 
 abbrev pub invariant-loop-i : goal.invariant-loop-i
 invariant-loop-i l = (l.i ≤ l.count) × (length l.values ≡ length l.initial.values) × (l.rest ≡ l.row / l.n ^ (l.count - l.i)) × (take (l.count - l.i) (drop l.i l.values) ≡ places_of l.n (l.count - l.i) l.row) × Within l.n l.values
-
-abbrev pub decreases-loop-i : goal.decreases-loop-i
-decreases-loop-i l = l.i

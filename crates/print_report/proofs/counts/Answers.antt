@@ -9,12 +9,6 @@ loop-j-init c = let a = c.args in (omega arith, begin _ (counts_all a.q.now a.g 
 pub count-next-requires : goal.count-next-requires
 count-next-requires c = let a = c.args in let p = c.requires in (p.0, p.1, p.2, omega arith, p.3, room_for (count_at a.q.now a.g a.n a.words.now c.loop-j.j) _ (recut (next_text (count_at a.q.now a.g a.n a.words.now) c.loop-j.j a.g.chosen (omega arith)) c.loop-j.invariant.1))
 
-pub overflow_add-j : goal.overflow_add-j
-overflow_add-j c = omega (arith, c.requires.0.chosen_le)
-
-pub loop-j-smaller : goal.loop-j-smaller
-loop-j-smaller c = omega arith
-
 pub loop-j-preserved : goal.loop-j-preserved
 loop-j-preserved c = let a = c.args in (omega arith, then (count_at a.q.now a.g a.n a.words.now c.loop-j.j) _ (recut (next_text (count_at a.q.now a.g a.n a.words.now) c.loop-j.j a.g.chosen (omega arith)) c.loop-j.invariant.1) c.count-next.ensures)
 

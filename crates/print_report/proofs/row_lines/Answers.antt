@@ -22,12 +22,6 @@ row_line-next-requires c =
           c.loop-row.row (a.n ^ a.arity) (omega (arith, p.2))) c.loop-row.invariant.1),
     )
 
-pub overflow_add-row : goal.overflow_add-row
-overflow_add-row c = omega arith
-
-pub loop-row-smaller : goal.loop-row-smaller
-loop-row-smaller c = omega arith
-
 pub loop-row-preserved : goal.loop-row-preserved
 loop-row-preserved c =
     let a = c.args in let p = c.requires in (

@@ -6,5 +6,5 @@ use Rattle.print_units.proofs.fill.Goals as goal
 
 pub returns : goal.returns
 returns c =
-    finish _ (then _ _ (begin c.args.out.now (filled_is c.args.used c.over.result
-    c.over.ensures) (omega arith) (omega arith)) c.spaces-next.ensures) c.byte.ensures
+    finish _ (then _ _ (begin c.args.out.now (filled_is c.args.used c.saturating_sub.result
+    c.saturating_sub.ensures) (omega arith) (omega arith)) c.spaces-next.ensures) c.byte.ensures

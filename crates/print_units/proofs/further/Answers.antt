@@ -14,5 +14,5 @@ returns-then-used-len-le30 c = emits_as (fits_further c.args.used c.args.len (om
 pub returns : goal.returns
 returns c =
     finish _ (then _ _ (then _ _ (begin c.args.out.now ((over_further c.args.used c.args.len (omega arith)).0 ∙ ap (λ (k : ℕ). spaces k ++ ((10 ∷ []) ++ spaces 42))
-    (sym c.over.ensures)) (omega arith) (omega arith))
+    (sym c.saturating_sub.ensures)) (omega arith) (omega arith))
     c.spaces-next.ensures) c.byte-ended.ensures) c.spaces.ensures

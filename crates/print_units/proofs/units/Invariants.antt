@@ -1,6 +1,6 @@
 -- `print_units::units` meets its contract.
-use Prim.Native.Nat.{◌-◌, ◌≤◌}
-use lib.ListN.{take, drop}
+use Prim.Native.Nat.{◌≤◌}
+use lib.ListN.{length, drop}
 use Rattle.print_line.specs.Lines.{said_by}
 use Rattle.print_bytes.specs.Emitted.{Left}
 use Rattle.print_units.specs.Units.{units_from, all_units}
@@ -8,8 +8,5 @@ use Rattle.print_units.specs.Streams.{streamed}
 use Rattle.print_units.proofs.units.Given as goal
 
 abbrev pub invariant-loop-j : goal.invariant-loop-j
-invariant-loop-j l = (l.j ≤ l.count) × (l.used ≤ 64) × Left (streamed 0 (all_units (said_by l.site l.labels) l.part (take l.count l.values))) l.initial.out l.at
-    (streamed l.used (units_from (said_by l.site l.labels) l.part (drop l.j (take l.count l.values)))) l.out l.next
-
-abbrev pub decreases-loop-j : goal.decreases-loop-j
-decreases-loop-j l = l.count - l.j
+invariant-loop-j l = (l.j ≤ length l.values) × (l.used ≤ 64) × Left (streamed 0 (all_units (said_by l.site l.labels) l.part l.values)) l.initial.out l.at
+    (streamed l.used (units_from (said_by l.site l.labels) l.part (drop l.j l.values))) l.out l.next

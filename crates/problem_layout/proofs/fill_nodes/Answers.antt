@@ -1,5 +1,5 @@
 use Prim.Native.Nat.{◌<◌}
-use mathlib.Core.Path.{refl, ◌∙◌}
+use mathlib.Core.Path.{◌≡◌, refl, ◌∙◌}
 use native.Mathlib.Omega.{arith}
 use borrow.Author.Rules.{rules}
 use Rattle.problem_layout.specs.Filled.{nodes_place}
@@ -37,4 +37,6 @@ loop-v-preserved c =
     )
 
 pub returns : goal.returns
-returns c = let l = c.loop-v in (node_last _ _ _ _ _ _ l.invariant.5 _ (omega arith) (omega arith) l.invariant.2 c.store-2.ensures, λ u h. l.invariant.3 u (omega arith))
+returns c =
+    let l = c.loop-v in let e : l.v ≡ c.args.t.count = omega arith in
+    (node_last _ _ _ _ _ _ l.invariant.5 _ (omega arith) (omega arith) (rw e at l.invariant.2) c.store-2.ensures, λ u h. l.invariant.3 u (omega arith))

@@ -1,5 +1,5 @@
 -- `problem_layout::fill_parts` meets its contract.
-use Prim.Native.Nat.{ℕ, ◌-◌, ◌^◌, ◌≤◌, ◌<◌}
+use Prim.Native.Nat.{ℕ, ◌^◌, ◌≤◌, ◌<◌}
 use mathlib.Core.Path.{◌≡◌}
 use mathlib.Core.List.{List}
 use lib.ListN.{length, get_or}
@@ -12,6 +12,3 @@ use Rattle.problem_layout.proofs.fill_parts.Given as goal
 abbrev pub invariant-loop-i : goal.invariant-loop-i
 invariant-loop-i l = let line : ℕ → List ℕ = λ k. numbers_in l.n l.ranges.top l.rel l.neg l.node (get_or l.t.parts k no_part) in (l.i ≤ l.t.placed) × (length l.table ≡ length l.initial.table)
     × (l.table ≡ splice parts_place (tab line l.i) l.initial.table) × ((u : ℕ) → u < l.i → Most (line u) (2 ^ 32)) × (l.t.placed ≤ 64) × (length l.initial.table ≡ table_length)
-
-abbrev pub decreases-loop-i : goal.decreases-loop-i
-decreases-loop-i l = l.t.placed - l.i

@@ -9,9 +9,6 @@ use Rattle.problem_layout.proofs.fill_range.Goals as goal
 pub loop-i-init : goal.loop-i-init
 loop-i-init c = (omega arith, refl, paste-zero _ c.args.at (below c.args.n))
 
-pub loop-i-smaller : goal.loop-i-smaller
-loop-i-smaller c = omega arith
-
 pub loop-i-preserved : goal.loop-i-preserved
 loop-i-preserved c = let l = c.loop-i in (omega arith, length-set l.table _ _ ∙ l.invariant.1, range_turn _ _ _ _ _ c.requires (omega arith) l.invariant.2)
 

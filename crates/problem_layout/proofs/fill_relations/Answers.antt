@@ -1,5 +1,5 @@
 use Prim.Native.Nat.{◌≤◌}
-use mathlib.Core.Path.{refl, ◌∙◌}
+use mathlib.Core.Path.{◌≡◌, refl, ◌∙◌}
 use native.Mathlib.Omega.{arith}
 use borrow.Author.Rules.{rules}
 use lib.ListN.{get_or}
@@ -46,4 +46,6 @@ loop-r-preserved c =
     )
 
 pub returns : goal.returns
-returns c = let k = c.loop-r in relation_last _ _ _ _ _ _ k.invariant.4 _ (omega arith) (omega arith) k.invariant.2 c.store-2.ensures
+returns c =
+    let k = c.loop-r in let e : k.r ≡ c.args.g.count = omega arith in
+    relation_last _ _ _ _ _ _ k.invariant.4 _ (omega arith) (omega arith) (rw e at k.invariant.2) c.store-2.ensures

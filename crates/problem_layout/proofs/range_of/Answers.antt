@@ -14,12 +14,6 @@ get-requires c = omega (arith, c.requires.1, c.requires.2, c.loop-x-test.true)
 pub overflow_add-count : goal.overflow_add-count
 overflow_add-count c = omega (arith, c.loop-x.invariant.1.few, c.requires.1, c.loop-x.invariant.0)
 
-pub overflow_add-x : goal.overflow_add-x
-overflow_add-x c = omega arith
-
-pub loop-x-smaller : goal.loop-x-smaller
-loop-x-smaller c = omega arith
-
 pub loop-x-preserved : goal.loop-x-preserved
 loop-x-preserved c =
     let l = c.loop-x in (

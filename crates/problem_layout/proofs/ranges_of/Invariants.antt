@@ -1,5 +1,5 @@
 -- `problem_layout::ranges_of` meets its contract.
-use Prim.Native.Nat.{◌-◌, ◌≤◌}
+use Prim.Native.Nat.{◌≤◌}
 use mathlib.Core.Path.{◌≡◌}
 use lib.ListN.{length}
 use Rattle.problem_layout.specs.RangeLaws.{CountedTo}
@@ -7,6 +7,3 @@ use Rattle.problem_layout.proofs.ranges_of.Given as goal
 
 abbrev pub invariant-loop-k : goal.invariant-loop-k
 invariant-loop-k l = (l.k ≤ l.types) × (length l.count ≡ 9) × (length l.top ≡ 9) × CountedTo l.n l.members l.k l.count l.top × (l.types ≤ 8)
-
-abbrev pub decreases-loop-k : goal.decreases-loop-k
-decreases-loop-k l = l.types - l.k

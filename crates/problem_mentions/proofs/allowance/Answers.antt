@@ -1,120 +1,108 @@
-use Prim.Native.Nat.{ℕ, ◌+◌, ◌-◌, ◌≤◌, ◌<◌, ◌^◌, ◌*◌}
-use mathlib.Core.Path.{◌≡◌, refl, ap, ap₂, ◌∙◌, subst}
+use Prim.Native.Nat.{ℕ, ◌+◌, ◌-◌, ◌≤◌, ◌^◌}
+use mathlib.Core.Path.{◌≡◌, refl, sym, ap, ap₂, ◌∙◌}
 use native.Mathlib.Omega.{arith}
-use lib.ListN.{get_or}
-use Rattle.rule_nodes.specs.Tables.{no_node}
+use native.Mathlib.Nat.{add-zero}
+use lib.ListN.{get_or, drop, length-take, length-drop}
+use Rattle.rule_nodes.specs.Tables.{no_node, no_part}
+use Rattle.rule_nodes.specs.Bounds.{part_taken}
+use Rattle.rule_nodes.specs.declared.PartRow.{PartRow}
 use Rattle.problem_layout.specs.Laid.{node_width}
 use Rattle.problem_layout.specs.LaidLaws.{node_width_le, pow_fits, size_most}
-use Rattle.problem_mentions.specs.Marks.{hits, atoms_after, row_width}
-use Rattle.rule_nodes.specs.Bounds.{which_small}
-use Rattle.problem_mentions.specs.MarkLaws.{hits_none, hits_next, marks_first, marks_next, atoms_first, atoms_next, atoms_bound, counted_le, allowed}
+use Rattle.problem_mentions.specs.Marks.{row_width}
+use Rattle.problem_mentions.specs.MarkLaws.{hits_none, hits_next, marks_first, marks_next, atoms_first, atoms_next, atoms_bound, allowed}
 use Rattle.problem_mentions.proofs.allowance.Goals as goal
-use Rattle.problem_mentions.proofs.allowance.Goals.{After-node_width, After-power-rows, In-nodes, In-parts}
+use Rattle.problem_mentions.proofs.allowance.Goals.{After-power-rows, After-node_width-total}
 
--- the node that is looked at
-abbrev node : In-nodes → ℕ
-node c = c.args.t.count - (c.nodes.done + 1)
-
--- its part that is looked at is one of the table's
-part_there : (c : In-parts) → c.wide-first.result + c.parts.k < 64
-part_there c =
-    omega (arith, c.wide-first.ensures.0, c.wide-many.ensures.0, c.requires.2.few_parts, (c.requires.2.nodes.node (c.args.t.count - (c.nodes.done + 1))).parts)
-
--- how many values its free variables have, and how many atoms it has
-rows_are : (c : After-power-rows) → c.power-rows.result ≡ c.args.n ^ (get_or c.args.t.rows (c.args.t.count - (c.nodes.done + 1)) no_node).width
+-- how many values the free variables of the node have, and how many atoms it has
+rows_are : (c : After-power-rows) → c.power-rows.result ≡ c.args.n ^ (get_or c.args.t.rows (c.loop-v.v - 1) no_node).width
 rows_are c = c.power-rows.ensures ∙ ap (λ (k : ℕ). c.args.n ^ k) c.wide.ensures.0
 
 rows-small : (c : After-power-rows) → c.power-rows.result ≤ 64 ^ 4
-rows-small c =
-    size_most c.args.n (get_or c.args.t.rows (c.args.t.count - (c.nodes.done + 1)) no_node).width c.power-rows.result (rows_are c) c.requires.1 (c.requires.2.nodes.node (c.args.t.count - (c.nodes.done + 1))).width
+rows-small c = size_most c.args.n _ c.power-rows.result (rows_are c) c.requires.1 (c.requires.2.nodes.node (c.loop-v.v - 1)).width
 
-row-width : (c : After-node_width) → c.power-rows.result ≡ c.args.n ^ (get_or c.args.t.rows (c.args.t.count - (c.nodes.done + 1)) no_node).width → c.node_width.result ≡ row_width c.args.n c.args.t (c.args.t.count - (c.nodes.done + 1))
-row-width c rows = c.node_width.ensures ∙ ap₂ (node_width c.args.n) rows c.wide-kind.ensures.0
+row-width : (c : After-node_width-total) → c.power-rows.result ≡ c.args.n ^ (get_or c.args.t.rows (c.loop-v.v - 1) no_node).width → c.node_width-total.result ≡ row_width c.args.n c.args.t (c.loop-v.v - 1)
+row-width c rows = c.node_width-total.ensures ∙ ap₂ (node_width c.args.n) rows c.wide-kind.ensures.0
 
-width_small : (c : After-node_width) → c.power-rows.result ≤ 64 ^ 4 → c.node_width.result ≤ 64 ^ 4 * 64
-width_small c small =
-    let w = node_width_le c.args.n c.power-rows.result c.wide-kind.result c.requires.1 small in
-    omega (arith, c.node_width.ensures)
+pub loop-v-init : goal.loop-v-init
+loop-v-init c =
+    let e : c.args.t.count - c.args.t.count ≡ 0 = omega arith in
+    rw e (omega arith, marks_first c.args.t c.args.r, atoms_first c.args.n c.args.t c.args.r)
 
-pub nodes-init : goal.nodes-init
-nodes-init c = (omega arith, marks_first c.args.t c.args.r, atoms_first c.args.n c.args.t c.args.r)
+pub loop-q-init : goal.loop-q-init
+loop-q-init c = hits_none _ _ _ _
 
-pub overflow_add-done : goal.overflow_add-done
-overflow_add-done c = omega (arith, c.requires.2.few)
-
-pub overflow_sub-v : goal.overflow_sub-v
-overflow_sub-v c = omega arith
-
-pub offset_bounds-t-v : goal.offset_bounds-t-v
-offset_bounds-t-v c = omega (arith, c.requires.2.few)
-
-pub bounds-t-v : goal.bounds-t-v
-bounds-t-v c = omega (arith, c.requires.2.few)
-
-pub parts-init : goal.parts-init
-parts-init c = (omega arith, hits_none _ _ _ _)
-
-pub overflow_add-q : goal.overflow_add-q
-overflow_add-q c = omega (arith, part_there c)
-
-pub offset_bounds-t-first : goal.offset_bounds-t-first
-offset_bounds-t-first c = omega (arith, part_there c)
-
-pub bounds-t-first : goal.bounds-t-first
-bounds-t-first c = omega (arith, part_there c)
-
-pub bounds-marks-which : goal.bounds-marks-which
-bounds-marks-which c = omega (arith, c.wide-which.ensures.0, which_small _ (c.requires.2.parts.part (c.wide-first.result + c.parts.k)))
-
-pub overflow_add-k : goal.overflow_add-k
-overflow_add-k c = omega (arith, part_there (goal.at.overflow_add-k c).In-parts)
-
-pub parts-smaller : goal.parts-smaller
-parts-smaller c = omega arith
-
-pub parts-preserved : goal.parts-preserved
-parts-preserved c = (
-  omega arith,
-  hits_next c.args.t.parts c.nodes.marks c.args.r c.wide-first.result
-      c.parts.k c.wide-which.result c.parts.hit c.found-hit.result c.parts.invariant.1 c.wide-which.ensures.0 c.found-hit.ensures,
-)
-
-pub bounds-marks-v : goal.bounds-marks-v
-bounds-marks-v c = omega (arith, c.requires.2.few)
+pub loop-q-preserved : goal.loop-q-preserved
+loop-q-preserved c =
+    let first = c.wide-first.result in let here = part_taken c.args.t.parts first c.wide-many.result c.loop-q.q-index no_part c.loop-q-test.true in
+    hits_next c.args.t.parts c.loop-v.marks c.args.r first c.loop-q.q-index c.wide-which.result c.loop-q.hit c.found-hit.result
+    c.loop-q.invariant (c.wide-which.ensures.0 ∙ ap (λ (q : PartRow). q.which) here) (rw here at c.found-hit.ensures)
 
 pub power-rows-requires : goal.power-rows-requires
-power-rows-requires c = let w = c.wide.ensures.0 in (c.requires.0, pow_fits c.args.n c.wide.result c.requires.1 (omega (arith, w, (c.requires.2.nodes.node (node (goal.at.power-rows-requires c).In-nodes)).width)))
+power-rows-requires c =
+    let w = c.wide.ensures.0 in (c.requires.0, pow_fits c.args.n c.wide.result c.requires.1 (omega (arith, w, (c.requires.2.nodes.node (c.loop-v.v - 1)).width)))
 
-pub node_width-requires : goal.node_width-requires
-node_width-requires c = (c.requires.1, rows-small c)
+pub node_width-total-requires : goal.node_width-total-requires
+node_width-total-requires c = (c.requires.1, rows-small (goal.at.node_width-total-requires c).After-power-rows)
 
 pub overflow_add-total : goal.overflow_add-total
 overflow_add-total c =
     omega (
       arith,
-      c.nodes.invariant.2,
-      atoms_bound c.args.n c.args.t c.args.r c.requires.1 c.requires.2 c.nodes.done,
+      c.loop-v.invariant.2,
+      atoms_bound c.args.n c.args.t c.args.r c.requires.1 c.requires.2 (c.args.t.count - c.loop-v.v),
       c.requires.2.few,
-      counted_le c.args.n c.args.t c.args.r c.parts.hit c.node_width.result c.counted-total.result c.counted-total.ensures,
-      width_small (goal.at.overflow_add-total c).After-node_width (rows-small (goal.at.overflow_add-total c).After-power-rows),
+      c.node_width-total.ensures,
+      node_width_le c.args.n c.power-rows.result c.wide-kind.result c.requires.1 (rows-small (goal.at.overflow_add-total c).After-power-rows),
     )
 
-pub nodes-smaller : goal.nodes-smaller
-nodes-smaller c = omega arith
+pub loop-v-preserved-then-hit : goal.loop-v-preserved-then-hit
+loop-v-preserved-then-hit c =
+    let t = c.args.t in let d = t.count - c.loop-v.v in let v = c.loop-v.v - 1 in
+    let first = c.wide-first.result in let many = c.wide-many.result in
+    let next : t.count - v ≡ d + 1 = omega arith in
+    let all : c.loop-q.q-index ≡ many
+    = omega (
+      arith,
+      c.wide-first.ensures.0,
+      c.wide-many.ensures.0,
+      c.requires.2.few_parts,
+      (c.requires.2.nodes.node v).parts,
+      length-take (first + many - first) (drop first t.parts),
+      length-drop first t.parts,
+    ) in
+    let h = rw all at c.loop-q.invariant in let i = c.loop-v.invariant in
+    rw next (
+      omega arith,
+      marks_next t c.args.r d v first many c.loop-v.marks c.loop-q.hit (omega arith) c.wide-first.ensures.0 c.wide-many.ensures.0 i.1 h,
+      atoms_next c.args.n t c.args.r d v first many c.loop-v.total _ c.node_width-total.result c.loop-v.marks c.loop-q.hit (omega arith) c.wide-first.ensures.0 c.wide-many.ensures.0 i.1 h
+          (row-width c (rows_are (goal.at.loop-v-preserved-then-hit c).After-power-rows)) (rw c.if-hit.true refl) i.2,
+    )
 
-pub nodes-preserved : goal.nodes-preserved
-nodes-preserved c =
-    let e : c.parts.k ≡ c.wide-many.result = omega (arith, c.parts.invariant.0) in
-    let few : c.nodes.done + 1 ≤ c.args.t.count = omega arith in
-    let h = subst (λ (k : ℕ). c.parts.hit ≡ hits c.args.t.parts c.nodes.marks c.args.r c.wide-first.result k) e c.parts.invariant.1 in (
-      few,
-      marks_next c.args.t c.args.r c.nodes.done (node (goal.at.nodes-preserved c).In-nodes) c.wide-first.result c.wide-many.result c.nodes.marks c.parts.hit refl c.wide-first.ensures.0 c.wide-many.ensures.0 c.nodes.invariant.1 h,
-      atoms_next c.args.n c.args.t c.args.r c.nodes.done (node (goal.at.nodes-preserved c).In-nodes) c.wide-first.result c.wide-many.result c.nodes.total c.node_width.result c.counted-total.result
-          c.nodes.marks c.parts.hit refl c.wide-first.ensures.0 c.wide-many.ensures.0 c.nodes.invariant.1 h (row-width (goal.at.nodes-preserved c).After-node_width (rows_are (goal.at.nodes-preserved c).After-power-rows)) c.counted-total.ensures c.nodes.invariant.2,
+pub loop-v-preserved : goal.loop-v-preserved
+loop-v-preserved c =
+    let t = c.args.t in let d = t.count - c.loop-v.v in let v = c.loop-v.v - 1 in
+    let first = c.wide-first.result in let many = c.wide-many.result in
+    let next : t.count - v ≡ d + 1 = omega arith in
+    let all : c.loop-q.q-index ≡ many
+    = omega (
+      arith,
+      c.wide-first.ensures.0,
+      c.wide-many.ensures.0,
+      c.requires.2.few_parts,
+      (c.requires.2.nodes.node v).parts,
+      length-take (first + many - first) (drop first t.parts),
+      length-drop first t.parts,
+    ) in
+    let h = rw all at c.loop-q.invariant in let i = c.loop-v.invariant in
+    rw next (
+      omega arith,
+      marks_next t c.args.r d v first many c.loop-v.marks c.loop-q.hit (omega arith) c.wide-first.ensures.0 c.wide-many.ensures.0 i.1 h,
+      sym (add-zero c.loop-v.total) ∙ atoms_next c.args.n t c.args.r d v first many c.loop-v.total (row_width c.args.n t v) 0 c.loop-v.marks c.loop-q.hit (omega arith) c.wide-first.ensures.0 c.wide-many.ensures.0 i.1 h
+          refl (rw c.if-hit.false refl) i.2,
     )
 
 pub returns : goal.returns
 returns c =
     λ p w k g G is.
-    let e : c.nodes.done ≡ c.args.t.count = omega (arith, c.nodes.invariant.0) in
-    c.nodes.invariant.2 ∙ ap (atoms_after c.args.n c.args.t c.args.r) e ∙ allowed c.args.n c.args.t c.args.r c.requires.2 p w k g G is
+    let e : c.args.t.count - c.loop-v.v ≡ c.args.t.count = omega arith in
+    rw e at c.loop-v.invariant.2 ∙ allowed c.args.n c.args.t c.args.r c.requires.2 p w k g G is

@@ -4,14 +4,8 @@ use mathlib.Core.Path.{◌≡◌}
 use Rattle.problem_mentions.specs.Marks.{hits, marks_after, atoms_after}
 use Rattle.problem_mentions.proofs.allowance.Given as goal
 
-abbrev pub invariant-parts : goal.invariant-parts
-invariant-parts l = (l.k ≤ l.many) × (l.hit ≡ hits l.t.parts l.marks l.r l.first l.k)
+abbrev pub invariant-loop-q : goal.invariant-loop-q
+invariant-loop-q l = l.hit ≡ hits l.fn.t.parts l.marks l.r l.first l.q-index
 
-abbrev pub decreases-parts : goal.decreases-parts
-decreases-parts l = l.many - l.k
-
-abbrev pub invariant-nodes : goal.invariant-nodes
-invariant-nodes l = (l.done ≤ l.t.count) × (l.marks ≡ marks_after l.t l.r l.done) × (l.total ≡ atoms_after l.n l.t l.r l.done)
-
-abbrev pub decreases-nodes : goal.decreases-nodes
-decreases-nodes l = l.t.count - l.done
+abbrev pub invariant-loop-v : goal.invariant-loop-v
+invariant-loop-v l = (l.v ≤ l.t.count) × (l.marks ≡ marks_after l.t l.r (l.t.count - l.v)) × (l.total ≡ atoms_after l.n l.t l.r (l.t.count - l.v))

@@ -6,5 +6,5 @@ use Rattle.problem_mentions.proofs.found.Goals as goal
 pub returns-then-tag-lt2 : goal.returns-then-tag-lt2
 returns-then-tag-lt2 c = found_literal c.args.before c.args.tag c.args.which c.args.marked c.args.r c.if-before.false (omega arith)
 
-pub returns : goal.returns
-returns c = found_node c.args.before c.args.tag c.args.which c.args.marked c.args.r c.if-before.false (omega arith)
+pub returns-else-tag-lt2 : goal.returns-else-tag-lt2
+returns-else-tag-lt2 c = found_node c.args.before c.args.tag c.args.which c.args.marked c.args.r c.if-before.false (omega arith)

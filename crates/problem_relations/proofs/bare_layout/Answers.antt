@@ -50,8 +50,8 @@ pub returns-then-has_last : goal.returns-then-has_last
 returns-then-has_last c = (
   bare_here _ _ _ (sym c.has_last.ensures
       ∙ c.if-has_last.true) _ _ _
-      c.power-size.ensures c.least.ensures
-      c.least-then-has_last.ensures,
+      c.power-size.ensures c.min.ensures
+      c.min-then-has_last.ensures,
   search rules,
   search rules,
   search rules,

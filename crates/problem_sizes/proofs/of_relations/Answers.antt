@@ -80,12 +80,6 @@ overflow_add-sets c =
 pub overflow_add-picks : goal.overflow_add-picks
 overflow_add-picks c = omega (arith, (counts-small ((goal.at.overflow_add-picks c).At-loop-i)).2, c.most_width-picks.ensures, most_width_le c.args.n c.power-size.result (get_or c.args.g.kind c.loop-i.i 0) c.requires.1 (size_small ((goal.at.overflow_add-picks c).After-power-size)))
 
-pub overflow_add-i : goal.overflow_add-i
-overflow_add-i c = omega (arith, c.requires.2.count)
-
-pub loop-i-smaller : goal.loop-i-smaller
-loop-i-smaller c = omega (arith, c.requires.2.count)
-
 pub loop-i-preserved : goal.loop-i-preserved
 loop-i-preserved c =
     let s = c.args in let k = c.loop-i in (

@@ -9,5 +9,5 @@ parts_hold-requires c = (c.requires.2, c.requires.3.parts, within_most _ c.value
 pub returns-then-test : goal.returns-then-test
 returns-then-test c = let values_of = c.values_of-env in and_parts _ _ _ _ _ _ (values_of.ensures.0 ∙ row_values_lem _ _ _) _ (sym c.test.ensures ∙ c.if-test.true) c.parts_hold.ensures
 
-pub returns : goal.returns
-returns c = and_no _ _ _ _ _ (sym c.test.ensures ∙ c.if-test.false)
+pub returns-else-test : goal.returns-else-test
+returns-else-test c = c.if-test.false ∙ and_no _ _ _ _ _ (sym c.test.ensures ∙ c.if-test.false)

@@ -5,7 +5,7 @@ use native.Mathlib.Omega.{arith}
 use Rattle.rows.specs.Laws.{times_most}
 use Rattle.problem_table.specs.NeedLaws.{forall_no, forall_not, forall_first, forall_next}
 use Rattle.problem_table.proofs.may_forall.Goals as goal
-use Rattle.problem_table.proofs.may_forall.Goals.{Start}
+use Rattle.problem_table.proofs.may_forall.Goals.{Start, then-y-eq0, else-y-eq0, else-test-via-then-test+else-under_holds, else-test-via-else-test}
 
 -- the atom of the row and of an element
 times : (c : Start) → c.args.row * c.args.n ≤ 2 ^ 32 * 64
@@ -13,9 +13,6 @@ times c = times_most _ _ c.requires.7 c.requires.1
 
 pub element_before-y-requires : goal.element_before-y-requires
 element_before-y-requires c = let q = c.requires in (q.2.whole, q.4.inside, omega arith, q.4.whole)
-
-pub returns-then-y-eq0 : goal.returns-then-y-eq0
-returns-then-y-eq0 c = forall_first _ _ _ _ _ _ _ c.element_before-y.ensures.0 (omega arith) (sym c.test.ensures ∙ c.if-test.true) (sym c.under_holds.ensures ∙ c.if-under_holds.true)
 
 pub overflow_mul-row : goal.overflow_mul-row
 overflow_mul-row c = omega (arith, times (goal.at.overflow_mul-row c).Start)
@@ -28,13 +25,15 @@ overflow_add-v c = omega (arith, times (goal.at.overflow_add-v c).Start)
 
 pub returns-then-under_holds : goal.returns-then-under_holds
 returns-then-under_holds c =
-    let b =
-    c.element_before-y in forall_next _ _ _ _ _ _ _ _ b.ensures.0 (omega arith)
-    (sym c.test.ensures ∙ c.if-test.true)
-    (sym c.under_holds.ensures ∙ c.if-under_holds.true) c.test-then-under_holds.ensures
+    let b = c.element_before-y in elim c.if-y-eq0.branch [
+      | then-y-eq0 w ↦ w.result-is ∙ rw w.if-y-eq0.true
+          (forall_first _ _ _ _ _ _ _ b.ensures.0 w.if-y-eq0.true (sym c.test.ensures ∙ c.if-test.true) (sym c.under_holds.ensures ∙ c.if-under_holds.true))
+      | else-y-eq0 w ↦ w.result-is ∙ forall_next _ _ _ _ _ _ _ _ b.ensures.0 (omega (arith, w.if-y-eq0.false))
+          (sym c.test.ensures ∙ c.if-test.true) (sym c.under_holds.ensures ∙ c.if-under_holds.true) w.test-else-y-eq0.ensures
+    ]
 
-pub returns-else-under_holds : goal.returns-else-under_holds
-returns-else-under_holds c = forall_not _ _ _ _ _ _ (sym c.test.ensures ∙ c.if-test.true) (sym c.under_holds.ensures ∙ c.if-under_holds.false)
-
-pub returns-else-test : goal.returns-else-test
-returns-else-test c = forall_no _ _ _ _ _ _ (sym c.test.ensures ∙ c.if-test.false)
+pub returns : goal.returns
+returns c = elim c.else-test.branch [
+  | else-test-via-then-test+else-under_holds w ↦ forall_not _ _ _ _ _ _ (sym c.test.ensures ∙ w.if-test.true) (sym w.under_holds.ensures ∙ w.if-under_holds.false)
+  | else-test-via-else-test w ↦ forall_no _ _ _ _ _ _ (sym c.test.ensures ∙ w.if-test.false)
+]

@@ -6,5 +6,5 @@ use Rattle.problem_table.proofs.may_mark.Goals as goal
 pub returns-then-test : goal.returns-then-test
 returns-then-test c = all_yes _ _ _ _ (sym c.test.ensures ∙ c.if-test.true) (c.test-then-test.ensures ∙ all_one _ _)
 
-pub returns : goal.returns
-returns c = all_no _ _ _ (sym c.test.ensures ∙ c.if-test.false)
+pub returns-else-test : goal.returns-else-test
+returns-else-test c = c.if-test.false ∙ all_no _ _ _ (sym c.test.ensures ∙ c.if-test.false)

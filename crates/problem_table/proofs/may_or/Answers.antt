@@ -10,5 +10,5 @@ part_holds-requires c = (c.requires.2, omega (arith, c.requires.3.parts), within
 pub returns-then-test : goal.returns-then-test
 returns-then-test c = let values_of = c.values_of-env in or_part _ _ _ _ _ _ (values_of.ensures.0 ∙ row_values_lem _ _ _) _ _ (sym c.test.ensures ∙ c.if-test.true) c.part_holds.ensures
 
-pub returns : goal.returns
-returns c = or_no _ _ _ _ _ _ (sym c.test.ensures ∙ c.if-test.false)
+pub returns-else-test : goal.returns-else-test
+returns-else-test c = c.if-test.false ∙ or_no _ _ _ _ _ _ (sym c.test.ensures ∙ c.if-test.false)

@@ -11,10 +11,10 @@ pub part_holds-requires : goal.part_holds-requires
 part_holds-requires c = (c.requires.0, omega arith, c.requires.2)
 
 pub loop-k-preserved : goal.loop-k-preserved
-loop-k-preserved c = (omega arith, c.loop-k.invariant.1 ∙ parts_next _ _ _ _ _ true (omega arith) (sym c.part_holds.ensures ∙ c.if-part_holds.true))
+loop-k-preserved c = (omega arith, c.loop-k.invariant.1 ∙ parts_next _ _ _ _ _ true (omega arith) (sym c.part_holds.ensures ∙ c.if-not-part_holds.false))
 
-pub returns-else-part_holds : goal.returns-else-part_holds
-returns-else-part_holds c = sym (c.loop-k.invariant.1 ∙ parts_next _ _ _ _ _ false (omega arith) (sym c.part_holds.ensures ∙ c.if-part_holds.false))
+pub returns-then-not-part_holds : goal.returns-then-not-part_holds
+returns-then-not-part_holds c = sym (c.loop-k.invariant.1 ∙ parts_next _ _ _ _ _ false (omega arith) (sym c.part_holds.ensures ∙ c.if-not-part_holds.true))
 
 pub returns : goal.returns
 returns c = sym (c.loop-k.invariant.1 ∙ parts_none _ _ _ _ _ (omega arith))

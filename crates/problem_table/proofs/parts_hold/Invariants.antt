@@ -11,6 +11,3 @@ use Rattle.problem_table.proofs.parts_hold.Given as goal
 
 abbrev pub invariant-loop-k : goal.invariant-loop-k
 invariant-loop-k l = let hold : (a m : ℕ) → Bool = λ a m. all (bit l.state) (map (part_at l.table (value_in l.env)) (from a m)) in (l.k ≤ l.many) × (hold l.first l.many ≡ hold (l.first + l.k) (l.many - l.k))
-
-abbrev pub decreases-loop-k : goal.decreases-loop-k
-decreases-loop-k l = l.many - l.k

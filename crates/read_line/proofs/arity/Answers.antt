@@ -1,19 +1,17 @@
 -- `read_line::arity` meets its contract.
-use mathlib.Core.Path.{sym, ap}
 use native.Mathlib.Omega.{arith}
-use Rattle.read_text.specs.Spans.{num_of}
-use Rattle.read_line.proofs.Made.{arity_of_lem, arity_no}
-use Rattle.read_line.proofs.Fields.{num_is, num_bad, arity_bad, arity_low, arity_high, arity_good}
+use borrow.Author.Rules.{rules}
+use Rattle.read_line.proofs.Fields.{arity_bad, arity_low, arity_high, arity_good}
 use Rattle.read_line.proofs.arity.Goals as goal
 
-pub returns-then-k-lt1 : goal.returns-then-k-lt1
-returns-then-k-lt1 c = (sym (ap num_of (arity_low _ _ (num_is _ _ _ c.in-Is.is c.number-n.ensures) (omega arith))), arity_no)
+pub returns-in_err-k-clause-is : goal.returns-in_err-k-clause-is
+returns-in_err-k-clause-is c = search (rules, arity_bad)
 
-pub returns-then-k-gt3 : goal.returns-then-k-gt3
-returns-then-k-gt3 c = (sym (ap num_of (arity_high _ _ (num_is _ _ _ c.in-Is.is c.number-n.ensures) (omega arith) (omega arith))), arity_no)
+pub returns-then-k-lt1-clause-is : goal.returns-then-k-lt1-clause-is
+returns-then-k-lt1-clause-is c = arity_low _ _ _ c.in_ok-k.ensures (omega arith)
 
-pub returns-in-Bad : goal.returns-in-Bad
-returns-in-Bad c = (sym (ap num_of (arity_bad _ (num_bad _ _ c.in-Bad.is c.number-n.ensures))), arity_no)
+pub returns-then-most-k-clause-is : goal.returns-then-most-k-clause-is
+returns-then-most-k-clause-is c = arity_high _ _ _ c.in_ok-k.ensures (omega arith) (omega arith)
 
-pub returns-else-k-gt3 : goal.returns-else-k-gt3
-returns-else-k-gt3 c = (sym (ap num_of (arity_good _ _ (num_is _ _ _ c.in-Is.is c.number-n.ensures) (omega arith) (omega arith))), arity_of_lem _ (omega arith) (omega arith))
+pub returns-clause-is : goal.returns-clause-is
+returns-clause-is c = arity_good _ _ _ c.in_ok-k.ensures (omega arith) (omega arith)

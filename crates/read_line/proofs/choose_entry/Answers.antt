@@ -1,8 +1,7 @@
 -- `read_line::choose_entry` meets its contract. A tab that is not found before the end is the end.
 use Prim.Native.Nat.{◌<◌}
-use mathlib.Core.Path.{◌∙◌}
 use native.Mathlib.Omega.{arith}
-use Rattle.read_line.proofs.Made.{in_wrong, choose_alone, choose_two, choose_more}
+use Rattle.read_line.proofs.Made.{choose_alone, choose_two, choose_more}
 use Rattle.read_line.proofs.Tabs.{found}
 use Rattle.read_line.proofs.choose_entry.Goals as goal
 use Rattle.read_line.proofs.choose_entry.Goals.{Else-t-e}
@@ -12,7 +11,7 @@ first-tab : (c : Else-t-e) → c.find-t.result < c.args.e
 first-tab c = omega (arith, found _ _ _ _ _ c.requires c.find-t.ensures)
 
 pub returns-then-t-e : goal.returns-then-t-e
-returns-then-t-e c = let a = c.args in (choose_alone _ a.a a.e (omega arith) (omega arith) _ c.find-t.ensures (omega arith), in_wrong _)
+returns-then-t-e c = choose_alone _ _ _ (omega arith) (omega arith) _ c.find-t.ensures (omega arith)
 
 pub overflow_add-t : goal.overflow_add-t
 overflow_add-t c = omega (arith, first-tab c)
@@ -25,8 +24,8 @@ choose_untyped-requires c = omega (arith, first-tab (goal.at.choose_untyped-requ
 
 pub returns-then-u-e : goal.returns-then-u-e
 returns-then-u-e c =
-    let h = first-tab (goal.at.returns-then-u-e c).Else-t-e in let a = c.args in let r = c.choose_untyped.ensures in
-    (r.0 ∙ choose_two _ a.a a.e (omega arith) (omega arith) _ c.find-t.ensures (omega arith) _ c.find-u.ensures (omega arith), r.1)
+    let h = first-tab (goal.at.returns-then-u-e c).Else-t-e in
+    rw (← choose_two _ _ _ (omega arith) (omega arith) _ c.find-t.ensures (omega arith) _ c.find-u.ensures (omega arith)) c.choose_untyped.ensures
 
 pub choose_typed-requires : goal.choose_typed-requires
 choose_typed-requires c =
@@ -36,8 +35,5 @@ choose_typed-requires c =
 pub returns : goal.returns
 returns c =
     let h = first-tab (goal.at.returns c).Else-t-e in let a = c.args in
-    let g = c.find-u.ensures in let k = found _ _ a.e _ _ (omega arith, omega arith) g in (
-      c.choose_typed.ensures.0 ∙ choose_more _ a.a a.e (omega arith) (omega arith) _ c.find-t.ensures
-          (omega arith) _ g (omega arith),
-      c.choose_typed.ensures.1,
-    )
+    let g = c.find-u.ensures in let k = found _ _ a.e _ _ (omega arith, omega arith) g in
+    rw (← choose_more _ _ _ (omega arith) (omega arith) _ c.find-t.ensures (omega arith) _ g (omega arith)) c.choose_typed.ensures

@@ -1,19 +1,14 @@
 -- `read_line::choose_typed` meets its contract.
 use native.Mathlib.Omega.{arith}
 use borrow.Author.Rules.{rules}
-use Rattle.read_line.proofs.Made.{in_wrong, in_typed, typed_none, typed_bad, typed_good}
+use Rattle.read_line.proofs.Made.{kind_tag, typed_none, typed_bad, typed_good}
 use Rattle.read_line.proofs.choose_typed.Goals as goal
 
-pub returns-then-kind-eq0 : goal.returns-then-kind-eq0
-returns-then-kind-eq0 c = search (rules, typed_none, in_wrong)
+pub returns-in_err-kind : goal.returns-in_err-kind
+returns-in_err-kind c = rw c.from_residual.ensures (typed_none _ _ _ _ _ (omega arith) (omega arith) (omega arith) (omega arith) c.in_err-kind.ensures)
 
-pub returns-in-Nowhere : goal.returns-in-Nowhere
-returns-in-Nowhere c = search (rules, typed_bad, in_wrong)
+pub returns-in_err-v : goal.returns-in_err-v
+returns-in_err-v c = search (rules, typed_bad)
 
-pub returns-in-At : goal.returns-in-At
-returns-in-At c =
-    let two = c.two-f.ensures in let f = c.in-At.is in (
-      typed_good _ _ _ _ _ _ c.kind_word-kind.ensures
-          c.if-kind-eq0.false _ two _ f,
-      in_typed _ _ _ _ (omega arith) (omega arith) (omega arith) _ _ _ f two _,
-    )
+pub returns : goal.returns
+returns c = rw (kind_tag c.in_ok-kind.kind) (typed_good _ _ _ _ _ (omega arith) (omega arith) (omega arith) (omega arith) _ c.in_ok-kind.ensures _ c.in_ok-v.ensures)

@@ -1,22 +1,14 @@
 -- `read_line::choose_untyped` meets its contract.
-use mathlib.Core.Path.{sym, ◌∙◌}
 use native.Mathlib.Omega.{arith}
 use borrow.Author.Rules.{rules}
-use Rattle.read_line.proofs.Made.{in_wrong, in_choose, in_kind, untyped_bad, untyped_good, untyped_kind}
+use Rattle.read_line.proofs.Made.{kind_tag, untyped_bad, untyped_good, untyped_kind}
 use Rattle.read_line.proofs.choose_untyped.Goals as goal
 
-pub returns-in-Bad : goal.returns-in-Bad
-returns-in-Bad c =
-    let a = c.args in let kind = sym c.if-kind-eq0.true
-    ∙ c.kind_word-kind.ensures in
-    (untyped_bad _ a.a a.t a.e kind _ c.arity-n.ensures.0 c.in-Bad.is, in_wrong _)
+pub returns-in_err-k-in-None : goal.returns-in_err-k-in-None
+returns-in_err-k-in-None c = search (rules, untyped_bad)
 
-pub returns-in-Is : goal.returns-in-Is
-returns-in-Is c =
-    let a = c.args in let kind = sym c.if-kind-eq0.true
-    ∙ c.kind_word-kind.ensures in
-    let n = c.in-Is.is in let k = c.arity-n.ensures in
-    (untyped_good _ a.a a.t a.e kind _ k.0 _ n, in_choose _ a.a a.t a.e (omega arith) (omega arith) (omega arith) _ _ n k.1)
+pub returns-in-Some : goal.returns-in-Some
+returns-in-Some c = rw (kind_tag c.in-Some.kind) (untyped_kind _ _ _ _ (omega arith) (omega arith) (omega arith) _ c.in-Some.ensures)
 
-pub returns : goal.returns
-returns c = search (rules, untyped_kind, in_kind)
+pub returns-in_ok-k-in-None : goal.returns-in_ok-k-in-None
+returns-in_ok-k-in-None c = untyped_good _ _ _ _ (omega arith) (omega arith) (omega arith) c.in-None.ensures _ c.in_ok-k-in-None.ensures.is c.in_ok-k-in-None.ensures.within

@@ -3,11 +3,11 @@ use mathlib.Core.Path.{sym, ◌∙◌}
 use Rattle.read_line.proofs.Fields.{code_number, code_name, code_none}
 use Rattle.read_line.proofs.element.Goals as goal
 
-pub returns-then-is_relation_name : goal.returns-then-is_relation_name
-returns-then-is_relation_name c = code_name _ _ c.in-Bad.is c.number-n.ensures (sym c.is_relation_name.ensures ∙ c.if-is_relation_name.true)
+pub returns-in-Some : goal.returns-in-Some
+returns-in-Some c = code_number _ _ c.in-Some.ensures
 
-pub returns-in-Is : goal.returns-in-Is
-returns-in-Is c = code_number _ _ _ c.in-Is.is c.number-n.ensures
+pub returns-then-is_relation_name : goal.returns-then-is_relation_name
+returns-then-is_relation_name c = code_name _ c.in-None.ensures (sym c.is_relation_name.ensures ∙ c.if-is_relation_name.true)
 
 pub returns-else-is_relation_name : goal.returns-else-is_relation_name
-returns-else-is_relation_name c = code_none _ _ c.in-Bad.is c.number-n.ensures (sym c.is_relation_name.ensures ∙ c.if-is_relation_name.false)
+returns-else-is_relation_name c = code_none _ c.in-None.ensures (sym c.is_relation_name.ensures ∙ c.if-is_relation_name.false)

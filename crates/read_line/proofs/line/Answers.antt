@@ -2,5 +2,5 @@
 use Rattle.read_line.proofs.Digits.{step_told}
 use Rattle.read_line.proofs.line.Goals as goal
 
-pub returns-in-Step : goal.returns-in-Step
-returns-in-Step c = step_told _ _ _ _ _ c.in-Step.is c.step_line-q.ensures
+pub returns-in-Some : goal.returns-in-Some
+returns-in-Some c = step_told _ _ _ _ c.in-Some.ensures

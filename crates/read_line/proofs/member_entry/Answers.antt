@@ -2,20 +2,20 @@
 use native.Mathlib.Omega.{arith}
 use borrow.Author.Rules.{rules}
 use Rattle.read_line.proofs.Fields.{two_bounds}
-use Rattle.read_line.proofs.Made.{in_wrong, in_member, member_none, member_bad, member_good}
+use Rattle.read_line.proofs.Made.{member_none, member_bad, member_good}
 use Rattle.read_line.proofs.member_entry.Goals as goal
 
 pub overflow_add-t : goal.overflow_add-t
-overflow_add-t c = omega (arith, two_bounds _ _ _ _ _ c.in-At.is c.two-f.ensures)
+overflow_add-t c = omega (arith, two_bounds _ _ _ _ c.in_ok-t.ensures)
 
-pub element-n-requires : goal.element-n-requires
-element-n-requires c = omega (arith, two_bounds _ _ _ _ _ c.in-At.is c.two-f.ensures)
+pub element-requires : goal.element-requires
+element-requires c = omega (arith, two_bounds _ _ _ _ c.in_ok-t.ensures)
 
-pub returns-in-Nowhere : goal.returns-in-Nowhere
-returns-in-Nowhere c = search (rules, member_none, in_wrong)
+pub returns-in_err-t : goal.returns-in_err-t
+returns-in_err-t c = search (rules, member_none)
 
-pub returns-in-Bad : goal.returns-in-Bad
-returns-in-Bad c = search (rules, member_bad, in_wrong)
+pub returns-in_err-k : goal.returns-in_err-k
+returns-in_err-k c = search (rules, member_bad)
 
-pub returns-in-Is : goal.returns-in-Is
-returns-in-Is c = search (rules, member_good, in_member)
+pub returns : goal.returns
+returns c = member_good _ _ _ (omega arith) _ c.in_ok-t.ensures _ c.in_ok-k.ensures

@@ -8,8 +8,5 @@ use Rattle.read_names.specs.Signatures.{with_arrays, relations_from, matches, co
 use Rattle.read_names.proofs.lookup.Given as goal
 
 abbrev pub invariant-loop-i : goal.invariant-loop-i
-invariant-loop-i l = (l.lo ≤ l.i) × (l.i ≤ l.hi) × ((g : Signature) → counted l.lo (position (matches (slice l.a l.e l.s) l.any l.k) (relations_from l.q (with_arrays g l.from l.to l.arity) l.lo l.m))
-    ≡ counted l.i (position (matches (slice l.a l.e l.s) l.any l.k) (relations_from l.q (with_arrays g l.from l.to l.arity) l.i (l.hi - l.i))))
-
-abbrev pub decreases-loop-i : goal.decreases-loop-i
-decreases-loop-i l = l.hi - l.i
+invariant-loop-i l = (l.lo ≤ l.i) × (l.i ≤ l.hi) × ((g : Signature) → counted l.lo (position (matches (slice l.a l.e l.s) l.wanted) (relations_from l.q (with_arrays g l.from l.to l.arity) l.lo l.m))
+    ≡ counted l.i (position (matches (slice l.a l.e l.s) l.wanted) (relations_from l.q (with_arrays g l.from l.to l.arity) l.i (l.hi - l.i))))

@@ -1,6 +1,5 @@
 -- `read_plan::action` meets its contract. Assumes nothing.
-use native.Mathlib.Omega.{arith}
-use mathlib.Core.Path.{◌∙◌, ap₂, subst, refl}
+use mathlib.Core.Path.{subst, refl}
 use Rattle.read_plan.specs.Numbers.{told, number_by, NameFits, number_as}
 use Rattle.read_plan.proofs.action.Goals as goal
 
@@ -30,36 +29,36 @@ or_step-requires c = record { fits = (c.requires.fits.0, (subst NameFits c.in-Or
 
 pub returns-in-Set : goal.returns-in-Set
 unfolding number_by
-returns-in-Set c = (number_as _ _ _ _ c.args.k _ _ c.in-Set.is c.set_step.ensures.0, c.set_step.ensures.1)
+returns-in-Set c = number_as _ _ _ _ c.args.k _ _ c.in-Set.is c.set_step.ensures
 
 pub returns-in-Begin : goal.returns-in-Begin
 unfolding number_by
-returns-in-Begin c = (number_as _ _ _ _ c.args.k _ _ c.in-Begin.is c.begin_step.ensures.0, c.begin_step.ensures.1)
+returns-in-Begin c = number_as _ _ _ _ c.args.k _ _ c.in-Begin.is c.begin_step.ensures
 
 pub returns-in-Goal : goal.returns-in-Goal
 unfolding number_by
-returns-in-Goal c = (number_as _ _ _ _ c.args.k _ _ c.in-Goal.is c.goal_step.ensures.0, c.goal_step.ensures.1)
+returns-in-Goal c = number_as _ _ _ _ c.args.k _ _ c.in-Goal.is c.goal_step.ensures
 
 pub returns-in-And : goal.returns-in-And
 unfolding number_by
-returns-in-And c = (number_as _ _ _ _ c.args.k _ _ c.in-And.is c.and_step.ensures.0, c.and_step.ensures.1)
+returns-in-And c = number_as _ _ _ _ c.args.k _ _ c.in-And.is c.and_step.ensures
 
 pub returns-in-Exists : goal.returns-in-Exists
 unfolding number_by
-returns-in-Exists c = (number_as _ _ _ _ c.args.k _ _ c.in-Exists.is c.exists_step.ensures.0, c.exists_step.ensures.1)
+returns-in-Exists c = number_as _ _ _ _ c.args.k _ _ c.in-Exists.is c.exists_step.ensures
 
 pub returns-in-First : goal.returns-in-First
 unfolding number_by
-returns-in-First c = (number_as _ _ _ _ c.args.k _ _ c.in-First.is c.first_step.ensures.0, c.first_step.ensures.1)
+returns-in-First c = number_as _ _ _ _ c.args.k _ _ c.in-First.is c.first_step.ensures
 
 pub returns-in-Next : goal.returns-in-Next
 unfolding number_by
-returns-in-Next c = (number_as _ _ _ _ c.args.k _ _ c.in-Next.is c.next_step.ensures.0, c.next_step.ensures.1)
+returns-in-Next c = number_as _ _ _ _ c.args.k _ _ c.in-Next.is c.next_step.ensures
 
 pub returns-in-Or : goal.returns-in-Or
 unfolding number_by
-returns-in-Or c = (number_as _ _ _ _ c.args.k _ _ c.in-Or.is c.or_step.ensures.0, c.or_step.ensures.1)
+returns-in-Or c = number_as _ _ _ _ c.args.k _ _ c.in-Or.is c.or_step.ensures
 
 pub returns-in-Nobody : goal.returns-in-Nobody
 unfolding number_by told
-returns-in-Nobody c = (ap₂ told c.no_step.ensures.0 c.no_step.ensures.1 ∙ number_as _ _ _ _ c.args.k _ _ c.in-Nobody.is refl, omega (arith, c.no_step.ensures.1))
+returns-in-Nobody c = number_as _ _ _ _ c.args.k _ _ c.in-Nobody.is refl

@@ -14,4 +14,4 @@ pub node_step-requires : goal.node_step-requires
 node_step-requires c = record { fits = c.requires; each_bound = (c.requires.0.size, omega (arith, c.requires.3 c.node_line-width.result.width, c.requires.0.size), omega arith) }
 
 pub returns : goal.returns
-returns c = (exists_number_lem _ _ _ _ _ _ _ c.node_line-width.ensures refl c.node_step.ensures.0, c.node_step.ensures.1)
+returns c = exists_number_lem _ _ _ _ _ _ _ c.node_line-width.ensures refl c.node_step.ensures

@@ -5,4 +5,4 @@ use Rattle.read_plan.specs.Numbers.{sized}
 use Rattle.read_plan.proofs.goal_step.Goals as goal
 
 pub returns : goal.returns
-returns c = (c.step_if.ensures.0 ∙ ap (λ (y : NodeLine). sized c.args.count 0 y.acts) c.node_line-line.ensures, c.step_if.ensures.1)
+returns c = c.step_if.ensures ∙ ap (λ (y : NodeLine). sized c.args.count 0 y.acts) c.node_line-line.ensures

@@ -12,17 +12,11 @@ loop-i-init c = (omega arith, omega arith, omega arith, refl)
 pub bounds-s-i : goal.bounds-s-i
 bounds-s-i c = omega (arith, c.requires.1)
 
-pub overflow_add-i : goal.overflow_add-i
-overflow_add-i c = omega (arith, c.requires.1)
-
-pub loop-i-smaller : goal.loop-i-smaller
-loop-i-smaller c = omega arith
-
 pub loop-i-preserved : goal.loop-i-preserved
-loop-i-preserved c = (omega arith, omega arith, omega arith, c.loop-i.invariant.3 ∙ bytes_yes _ c.loop-i.i c.args.e c.requires.1 (omega arith) (sym c.is_word_byte.ensures ∙ c.if-is_word_byte.true))
+loop-i-preserved c = (omega arith, omega arith, omega arith, c.loop-i.invariant.3 ∙ bytes_yes _ c.loop-i.i c.args.e c.requires.1 (omega arith) (sym c.is_word_byte.ensures ∙ c.if-not-is_word_byte.false))
 
-pub returns-else-is_word_byte : goal.returns-else-is_word_byte
-returns-else-is_word_byte c = sym (word_bytes _ c.args.a c.args.e c.requires.1 (omega arith) ∙ c.loop-i.invariant.3 ∙ bytes_no _ c.loop-i.i c.args.e c.requires.1 (omega arith) (sym c.is_word_byte.ensures ∙ c.if-is_word_byte.false))
+pub returns-then-not-is_word_byte : goal.returns-then-not-is_word_byte
+returns-then-not-is_word_byte c = sym (word_bytes _ c.args.a c.args.e c.requires.1 (omega arith) ∙ c.loop-i.invariant.3 ∙ bytes_no _ c.loop-i.i c.args.e c.requires.1 (omega arith) (sym c.is_word_byte.ensures ∙ c.if-not-is_word_byte.true))
 
 pub returns : goal.returns
 returns c = sym (word_bytes _ c.args.a c.args.e c.requires.1 (omega arith) ∙ c.loop-i.invariant.3 ∙ bytes_end _ c.loop-i.i c.args.e c.requires.1 (omega arith) (omega arith))

@@ -1,23 +1,16 @@
 -- `read_plan::is_word_byte` meets its contract. Assumes nothing.
-use native.Mathlib.Omega.{arith}
-use mathlib.Core.Path.{sym}
-use Rattle.read_plan.specs.Spelled.{word_low, word_digit, word_mid, word_capital, word_between, word_small}
+use mathlib.Core.Path.{◌≡◌}
+use mathlib.Core.Bool.{Bool, ◌||◌}
+use Rattle.definitions.specs.Sheet.Text.{is_small, is_digit, is_between}
+use Prim.Native.Nat.{ℕ}
+use lib.Dec.{eqb}
+use Rattle.std.specs.Char.{is_ascii_digit, is_ascii_lowercase}
+use Rattle.definitions.specs.Reply.Pddl.{small, is_word_byte}
 use Rattle.read_plan.proofs.is_word_byte.Goals as goal
 
-pub returns-then-b-lt48 : goal.returns-then-b-lt48
-returns-then-b-lt48 c = sym (word_low _ (omega arith))
-
-pub returns-then-b-le57 : goal.returns-then-b-le57
-returns-then-b-le57 c = sym (word_digit _ (omega arith) (omega arith))
-
-pub returns-then-b-lt65 : goal.returns-then-b-lt65
-returns-then-b-lt65 c = sym (word_mid _ (omega arith) (omega arith))
-
-pub returns-then-b-le90 : goal.returns-then-b-le90
-returns-then-b-le90 c = sym (word_capital _ (omega arith) (omega arith))
-
-pub returns-then-b-lt97 : goal.returns-then-b-lt97
-returns-then-b-lt97 c = sym (word_between _ (omega arith) (omega arith))
+word_as : (b c : ℕ) (l d : Bool) → c ≡ small b → l ≡ is_ascii_lowercase c → d ≡ is_ascii_digit c → (((l || d) || eqb c 95) || eqb c 45) ≡ is_word_byte (small b)
+unfolding is_word_byte is_small is_digit is_between
+word_as b c l d e p q = rw (← e, p, q)
 
 pub returns : goal.returns
-returns c = sym (word_small _ (omega arith))
+returns c = word_as c.args.b _ _ _ c.small-c.ensures c.is_ascii_lowercase.ensures.value c.is_ascii_digit.ensures.value

@@ -20,4 +20,4 @@ pub overflow_add-line-2 : goal.overflow_add-line-2
 overflow_add-line-2 c = omega (arith, small_product c.row-first.result c.args.c.each c.row-first.ensures.1 c.requires.each_bound.0, acts_small _ _ _ c.requires.fits.0 c.node_line-line.ensures, c.requires.each_bound.1)
 
 pub returns : goal.returns
-returns c = (node_number_lem _ _ _ _ _ _ _ _ _ _ c.node_line-line.ensures c.row-first.ensures.0 c.step_if.ensures.0, c.step_if.ensures.1)
+returns c = node_number_lem _ _ _ _ _ _ _ _ _ _ c.node_line-line.ensures c.row-first.ensures.0 c.step_if.ensures

@@ -8,4 +8,4 @@ pub node_step-requires : goal.node_step-requires
 node_step-requires c = record { fits = c.requires.fits; each_bound = (many_few _ _ _ c.requires.fits.0 c.requires.fits.1 c.node_line-many.ensures, c.requires.i_bound, omega arith) }
 
 pub returns : goal.returns
-returns c = (or_number_lem _ _ _ _ _ _ _ _ c.node_line-many.ensures refl c.node_step.ensures.0, c.node_step.ensures.1)
+returns c = or_number_lem _ _ _ _ _ _ _ _ c.node_line-many.ensures refl c.node_step.ensures

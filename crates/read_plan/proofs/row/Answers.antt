@@ -21,12 +21,6 @@ bounds-values-i c = omega (arith, c.requires.2)
 pub overflow_add-sum : goal.overflow_add-sum
 overflow_add-sum c = omega (arith, small_product c.loop-i.sum c.args.n c.loop-i.invariant.2 c.requires.0, c.requires.3 c.loop-i.i, c.requires.0)
 
-pub overflow_add-i : goal.overflow_add-i
-overflow_add-i c = omega (arith, c.requires.1)
-
-pub loop-i-smaller : goal.loop-i-smaller
-loop-i-smaller c = omega arith
-
 pub loop-i-preserved : goal.loop-i-preserved
 loop-i-preserved c = (omega arith, row_next c.args.n c.args.values.now c.loop-i.i c.loop-i.sum (omega (arith, c.requires.2)) c.loop-i.invariant.1, subst (λ (x : ℕ). x < 2 ^ 36) (sym (row_next c.args.n c.args.values.now c.loop-i.i c.loop-i.sum (omega (arith, c.requires.2)) c.loop-i.invariant.1)) (row_few c.args.n c.args.values.now (c.loop-i.i + 1) c.requires.0 (omega (arith, c.requires.1)) (omega (arith, c.requires.2)) c.requires.3))
 

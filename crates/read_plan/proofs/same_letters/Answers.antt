@@ -18,12 +18,6 @@ bounds-s-a c = omega (arith, c.requires.1)
 pub returns-then-small : goal.returns-then-small
 returns-then-small c = sym (c.loop-i.invariant.1 ∙ letters_miss c.args.t.now c.args.n c.args.s.now c.args.a c.requires.0 c.requires.1 c.loop-i.i (omega arith) (λ w. c.if-small.true (c.small.ensures ∙ w ∙ sym c.small-in-loop-i.ensures)))
 
-pub overflow_add-i : goal.overflow_add-i
-overflow_add-i c = omega arith
-
-pub loop-i-smaller : goal.loop-i-smaller
-loop-i-smaller c = omega arith
-
 pub loop-i-preserved : goal.loop-i-preserved
 loop-i-preserved c = (omega arith, c.loop-i.invariant.1 ∙ letters_hit c.args.t.now c.args.n c.args.s.now c.args.a c.requires.0 c.requires.1 c.loop-i.i (omega arith) (sym c.small.ensures ∙ c.if-small.false ∙ c.small-in-loop-i.ensures))
 

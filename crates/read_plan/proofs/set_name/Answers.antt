@@ -17,12 +17,6 @@ is_set-requires c = record { fits = (c.requires.fits.0, c.requires.fits.1, omega
 pub returns-then-is_set : goal.returns-then-is_set
 returns-then-is_set c = set_here _ _ _ _ c.loop-r.r (omega (arith, c.loop-r.invariant.1)) (subst (λ (x : Bool). IsSet c.args.question.now c.args.names.now c.args.table.now (slice c.args.a c.args.e c.args.s.now) c.loop-r.r x) c.if-is_set.true c.is_set.ensures)
 
-pub overflow_add-r : goal.overflow_add-r
-overflow_add-r c = omega (arith, c.loop-r.invariant.1, c.requires.fits.0.relations)
-
-pub loop-r-smaller : goal.loop-r-smaller
-loop-r-smaller c = omega arith
-
 pub loop-r-preserved : goal.loop-r-preserved
 loop-r-preserved c = (omega arith, c.loop-r.invariant.1, none_next _ _ _ _ c.loop-r.r c.loop-r.invariant.2 (subst (λ (x : Bool). IsSet c.args.question.now c.args.names.now c.args.table.now (slice c.args.a c.args.e c.args.s.now) c.loop-r.r x) c.if-is_set.false c.is_set.ensures))
 

@@ -11,4 +11,4 @@ pub overflow_add-line : goal.overflow_add-line
 overflow_add-line c = omega (arith, sets_small _ _ _ c.requires.fits.0 c.relation_line-line.ensures, c.row-at.ensures.1)
 
 pub returns : goal.returns
-returns c = (set_number_lem _ _ _ _ _ _ _ _ _ c.relation_line-line.ensures refl c.row-at.ensures.0 c.step_if.ensures.0, c.step_if.ensures.1)
+returns c = set_number_lem _ _ _ _ _ _ _ _ _ c.relation_line-line.ensures refl c.row-at.ensures.0 c.step_if.ensures

@@ -1,7 +1,5 @@
 use native.Mathlib.Omega.{arith}
-use mathlib.Core.Path.{refl, sym, ap, ◌∙◌}
-use mathlib.Core.Bool.{Bool}
-use Rattle.read_plan.specs.Numbers.{told}
+use mathlib.Core.Path.{refl}
 use Rattle.read_plan.specs.Lines.{read_within}
 use Rattle.read_plan.specs.Writing.{goes_first, line_whole, goes_on, goes_stop, goes_all, set_room}
 use Rattle.read_plan.proofs.steps.Goals as goal
@@ -18,17 +16,14 @@ overflow_add-at c = omega (arith, c.loop-at.invariant.3)
 pub overflow_sub-e : goal.overflow_sub-e
 overflow_sub-e c = omega (arith, (line_whole _ _ _ c.args.s.now _ c.loop-at.at c.loop-at.count _ c.loop-at.invariant.5 c.find-e.result (omega arith) c.find-e.ensures c.requires.posed.0 c.requires.posed.1 c.requires.s_value.0 c.requires.s_value.1).1)
 
-pub line_step-k-requires : goal.line_step-k-requires
-line_step-k-requires c = record { posed = c.requires.posed; a_le_e = (omega (arith, (line_whole _ _ _ c.args.s.now _ c.loop-at.at c.loop-at.count _ c.loop-at.invariant.5 c.find-e.result (omega arith) c.find-e.ensures c.requires.posed.0 c.requires.posed.1 c.requires.s_value.0 c.requires.s_value.1).1), omega (arith, (line_whole _ _ _ c.args.s.now _ c.loop-at.at c.loop-at.count _ c.loop-at.invariant.5 c.find-e.result (omega arith) c.find-e.ensures c.requires.posed.0 c.requires.posed.1 c.requires.s_value.0 c.requires.s_value.1).0), omega (arith, (line_whole _ _ _ c.args.s.now _ c.loop-at.at c.loop-at.count _ c.loop-at.invariant.5 c.find-e.result (omega arith) c.find-e.ensures c.requires.posed.0 c.requires.posed.1 c.requires.s_value.0 c.requires.s_value.1).0, c.loop-at.invariant.3)) }
-
-pub overflow_cast-k : goal.overflow_cast-k
-overflow_cast-k c = omega (arith, c.line_step-k.ensures.1)
+pub line_step-requires : goal.line_step-requires
+line_step-requires c = record { posed = c.requires.posed; a_le_e = (omega (arith, (line_whole _ _ _ c.args.s.now _ c.loop-at.at c.loop-at.count _ c.loop-at.invariant.5 c.find-e.result (omega arith) c.find-e.ensures c.requires.posed.0 c.requires.posed.1 c.requires.s_value.0 c.requires.s_value.1).1), omega (arith, (line_whole _ _ _ c.args.s.now _ c.loop-at.at c.loop-at.count _ c.loop-at.invariant.5 c.find-e.result (omega arith) c.find-e.ensures c.requires.posed.0 c.requires.posed.1 c.requires.s_value.0 c.requires.s_value.1).0), omega (arith, (line_whole _ _ _ c.args.s.now _ c.loop-at.at c.loop-at.count _ c.loop-at.invariant.5 c.find-e.result (omega arith) c.find-e.ensures c.requires.posed.0 c.requires.posed.1 c.requires.s_value.0 c.requires.s_value.1).0, c.loop-at.invariant.3)) }
 
 pub overflow_add-count : goal.overflow_add-count
 overflow_add-count c = omega (arith, c.loop-at.invariant.1, c.loop-at.invariant.3)
 
-pub overflow_add-at-then-k : goal.overflow_add-at-then-k
-overflow_add-at-then-k c = omega (arith, (line_whole _ _ _ c.args.s.now _ c.loop-at.at c.loop-at.count _ c.loop-at.invariant.5 c.find-e.result (omega arith) c.find-e.ensures c.requires.posed.0 c.requires.posed.1 c.requires.s_value.0 c.requires.s_value.1).0, c.loop-at.invariant.3)
+pub overflow_add-at-in-loop-at : goal.overflow_add-at-in-loop-at
+overflow_add-at-in-loop-at c = omega (arith, (line_whole _ _ _ c.args.s.now _ c.loop-at.at c.loop-at.count _ c.loop-at.invariant.5 c.find-e.result (omega arith) c.find-e.ensures c.requires.posed.0 c.requires.posed.1 c.requires.s_value.0 c.requires.s_value.1).0, c.loop-at.invariant.3)
 
 pub loop-at-smaller : goal.loop-at-smaller
 loop-at-smaller c = omega (arith, (line_whole _ _ _ c.args.s.now _ c.loop-at.at c.loop-at.count _ c.loop-at.invariant.5 c.find-e.result (omega arith) c.find-e.ensures c.requires.posed.0 c.requires.posed.1 c.requires.s_value.0 c.requires.s_value.1).0, (line_whole _ _ _ c.args.s.now _ c.loop-at.at c.loop-at.count _ c.loop-at.invariant.5 c.find-e.result (omega arith) c.find-e.ensures c.requires.posed.0 c.requires.posed.1 c.requires.s_value.0 c.requires.s_value.1).1)
@@ -39,15 +34,15 @@ loop-at-preserved c = (
   omega (arith, (line_whole _ _ _ c.args.s.now _ c.loop-at.at c.loop-at.count _ c.loop-at.invariant.5 c.find-e.result (omega arith) c.find-e.ensures c.requires.posed.0 c.requires.posed.1 c.requires.s_value.0 c.requires.s_value.1).1, c.loop-at.invariant.1),
   c.loop-at.invariant.2,
   c.loop-at.invariant.3,
-  set_room c.loop-at.out _ c.loop-at.count c.line_step-k.result.number _ c.put.ensures c.loop-at.invariant.4,
-  goes_on _ _ _ c.args.s.now _ c.loop-at.at c.loop-at.count _ c.loop-at.invariant.5 c.find-e.result (omega arith) c.find-e.ensures _ (λ case P. ap (λ (b : Bool). told b c.line_step-k.result.number) (sym c.if-k.true) ∙ c.line_step-k.ensures.0 case P) _ c.put.ensures,
+  set_room c.loop-at.out _ c.loop-at.count c.in-Some.k _ c.put.ensures c.loop-at.invariant.4,
+  goes_on _ _ _ c.args.s.now _ c.loop-at.at c.loop-at.count _ c.loop-at.invariant.5 c.find-e.result (omega arith) c.find-e.ensures _ c.in-Some.ensures _ c.put.ensures,
 )
 
-pub shape_of-out-else-k : goal.shape_of-out-else-k
-shape_of-out-else-k c = c.loop-at.invariant.4
+pub shape_of-out-in_default : goal.shape_of-out-in_default
+shape_of-out-in_default c = c.loop-at.invariant.4
 
-pub returns-else-k : goal.returns-else-k
-returns-else-k c = goes_stop _ _ _ c.args.s.now _ c.loop-at.at c.loop-at.count _ c.loop-at.invariant.5 c.find-e.result (omega arith) c.find-e.ensures _ (λ case P. ap (λ (b : Bool). told b c.line_step-k.result.number) (sym c.if-k.false) ∙ c.line_step-k.ensures.0 case P)
+pub returns-in_default : goal.returns-in_default
+returns-in_default c = rw c.at.ensures (goes_stop _ _ _ c.args.s.now _ c.loop-at.at c.loop-at.count _ c.loop-at.invariant.5 c.find-e.result (omega arith) c.find-e.ensures c.in_default.ensures)
 
 pub shape_of-out : goal.shape_of-out
 shape_of-out c = c.loop-at.invariant.4

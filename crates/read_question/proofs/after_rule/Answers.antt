@@ -8,6 +8,5 @@ pub returns-in-Wrong : goal.returns-in-Wrong
 unfolding later_of
 returns-in-Wrong c = sym (ap later_of c.in-Wrong.is)
 
-pub returns : goal.returns
-unfolding later_of
-returns c = later_other c.args.x c.in_default.not-Wrong
+pub returns-in_default : goal.returns-in_default
+returns-in_default c = later_other c.args.x c.in_default.not-Wrong

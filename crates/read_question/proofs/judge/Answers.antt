@@ -1,7 +1,7 @@
 -- `read_question::judge` meets its contract.
 use Rattle.read_line.specs.Entries.{InText}
 use Rattle.read_names.specs.Signatures.{types_of}
-use Rattle.read_question.proofs.Judging.{judge_wrong, rel_late, rel_here, type_late, type_here, choose_closed, choose_here, every_here, rule_early, rule_now, judge_other}
+use Rattle.read_question.proofs.Judging.{judge_wrong, rel_late, rel_here, type_late, type_here, choose_closed, choose_here, every_here, judge_other}
 use mathlib.Core.Path.{sym, subst, ◌∙◌}
 use Rattle.read_question.proofs.judge.Goals as goal
 
@@ -30,9 +30,6 @@ pub every_fault-requires : goal.every_fault-requires
 unfolding InText
 every_fault-requires c = let w = subst (InText _ _) c.in-Every.is c.requires.1 in (c.requires.0, w.0, w.1)
 
-pub returns-then-g-eq0 : goal.returns-then-g-eq0
-returns-then-g-eq0 c = rule_early _ _ _ _ _ c.in-Rule.is c.if-g-eq0.true
-
 pub returns-in-Wrong : goal.returns-in-Wrong
 returns-in-Wrong c = judge_wrong _ _ _ c.in-Wrong.is
 
@@ -49,8 +46,5 @@ returns-else-closed c = choose_here _ _ _ _ _ _ _ _ _ _ c.in-Choose.is _ (sym c.
 pub returns-in-Every : goal.returns-in-Every
 returns-in-Every c = every_here _ _ _ _ _ _ _ c.in-Every.is c.every_fault.ensures
 
-pub returns-else-g-eq0 : goal.returns-else-g-eq0
-returns-else-g-eq0 c = rule_now _ _ _ _ _ c.in-Rule.is c.if-g-eq0.false
-
 pub returns-in_default : goal.returns-in_default
-returns-in_default c = judge_other _ _ _ c.in_default.not-Wrong c.in_default.not-Rel c.in_default.not-Typed c.in_default.not-Choose c.in_default.not-Every c.in_default.not-Rule
+returns-in_default c = judge_other _ _ _ c.in_default.not-Wrong c.in_default.not-Rel c.in_default.not-Typed c.in_default.not-Choose c.in_default.not-Every

@@ -8,10 +8,6 @@ pub returns-then-v-eq0 : goal.returns-then-v-eq0
 unfolding types_of
 returns-then-v-eq0 c = sorts_none _ _ _ _ _ c.if-v-eq0.true
 
-pub overflow_add-u : goal.overflow_add-u
-unfolding types_of
-overflow_add-u c = omega (arith, c.requires.1 (omega arith))
-
 pub returns : goal.returns
 unfolding types_of
-returns c = sorts_both _ _ _ _ _ (omega arith) _ _ c.sort_named-first.ensures c.sort_named-second.ensures
+returns c = sorts_both _ _ _ _ _ (omega arith) _ _ c.sort_named.ensures c.sort_named-2.ensures

@@ -3,11 +3,11 @@ use mathlib.Core.Path.{sym, ◌∙◌}
 use Rattle.read_question.proofs.Judging.{type_malformed, type_twice, type_new}
 use Rattle.read_question.proofs.type_fault.Goals as goal
 
-pub returns-in-At : goal.returns-in-At
-returns-in-At c = type_twice _ _ (sym c.is_relation_name.ensures ∙ c.if-is_relation_name.true) _ c.type_named-f.ensures _ c.in-At.is
+pub returns-in-Some : goal.returns-in-Some
+returns-in-Some c = type_twice _ _ (sym c.is_relation_name.ensures ∙ c.if-not-is_relation_name.false) _ c.type_named.ensures _ c.in-Some.is
 
-pub returns-in-Nowhere : goal.returns-in-Nowhere
-returns-in-Nowhere c = type_new _ _ (sym c.is_relation_name.ensures ∙ c.if-is_relation_name.true) _ c.type_named-f.ensures c.in-Nowhere.is
+pub returns-in-None : goal.returns-in-None
+returns-in-None c = type_new _ _ (sym c.is_relation_name.ensures ∙ c.if-not-is_relation_name.false) _ c.type_named.ensures c.in-None.is
 
-pub returns-else-is_relation_name : goal.returns-else-is_relation_name
-returns-else-is_relation_name c = type_malformed _ _ (sym c.is_relation_name.ensures ∙ c.if-is_relation_name.false)
+pub returns-then-not-is_relation_name : goal.returns-then-not-is_relation_name
+returns-then-not-is_relation_name c = type_malformed _ _ (sym c.is_relation_name.ensures ∙ c.if-not-is_relation_name.true)

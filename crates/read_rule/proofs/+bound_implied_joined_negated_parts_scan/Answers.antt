@@ -16,38 +16,38 @@ use Rattle.read_rule.specs.Turns.{turn_first, turn_bad, turn_last}
 use Rattle.read_rule.specs.Bound.{few}
 use Rattle.read_rule.proofs.Rounds.{Part, found, found_parts, one_fits, two_fit, past_space, turn, Listed, found_typed, found_list, past_list, quant_fits, quant_done, past_word, rest_of, word_in, read_after}
 use Rattle.read_rule.proofs.+bound_implied_joined_negated_parts_scan.Goals as goal
-use Rattle.read_rule.proofs.+bound_implied_joined_negated_parts_scan.Goals.{bound-In-Ok-vs, bound-Then-starts, implied-In-Ok, implied-Then-starts, joined-In-Ok, negated-In-Ok, parts-In-Ok, parts-In-loop-sc, scan-After-kind_at-k}
+use Rattle.read_rule.proofs.+bound_implied_joined_negated_parts_scan.Goals.{bound-In_ok-b, bound-Else-not-starts, implied-In_ok-a, implied-Else-not-starts, joined-In_ok-a, negated-In_ok-a, parts-In_ok-next, parts-In-loop-sc, scan-After-kind_at-k}
 
 -- a quantifier's list
-bound-list : (t : ℕ) (c : bound-In-Ok-vs t) → let a = c.args in Listed (types_in a.s.now a.from.now a.to.now 8) a.s.now a.at c.in-Ok.a c.in-Ok-vs.b
-    c.in-Ok.one c.in-Ok-vs.others
+bound-list : (t : ℕ) (c : bound-In_ok-b t) → let a = c.args in Listed (types_in a.s.now a.from.now a.to.now 8) a.s.now a.at c.in_ok-a.a c.in_ok-b.b
+    c.in_ok-a.one c.in_ok-b.others
 bound-list t c =
-    let one = found_typed _ c.args.s.now c.requires.0 c.in-Ok.is c.typed_at-v.ensures in
-    found_list _ c.args.s.now one c.in-Ok-vs.is c.typed_vars-vs.ensures
+    let one = found_typed _ c.args.s.now c.requires.0 c.in_ok-a.was c.typed_at.ensures in
+    found_list _ c.args.s.now one c.in_ok-b.was c.typed_vars.ensures
 
 -- its end
-bound-stop : (t : ℕ) (c : bound-Then-starts t)
-    → begins (41 ∷ 32 ∷ []) (drop c.in-Ok-vs.b
+bound-stop : (t : ℕ) (c : bound-Else-not-starts t)
+    → begins (41 ∷ 32 ∷ []) (drop c.in_ok-b.b
     c.args.s.now) ≡ true
-bound-stop t c = sym c.starts.ensures ∙ c.if-starts.true
+bound-stop t c = sym c.starts.ensures ∙ c.if-not-starts.false
 
 -- the first part, and the space after it
-implied-first : (t : ℕ) (c : implied-In-Ok t) → let a = c.args in Part a.s.now a.from.now a.to.now a.arity.now a.m a.sc a.room a.at c.in-Ok.a c.in-Ok.n
+implied-first : (t : ℕ) (c : implied-In_ok-a t) → let a = c.args in Part a.s.now a.from.now a.to.now a.arity.now a.m a.sc a.room a.at c.in_ok-a.a c.in_ok-a.n
 implied-first t c =
-    found _ _ _ c.args.s.now _ c.requires.0 c.in-Ok.is c.scan-f.ensures
+    found _ _ _ c.args.s.now _ c.requires.0 c.in_ok-a.was c.scan.ensures
 
-implied-space : (t : ℕ) (c : implied-Then-starts t)
-    → begins (32 ∷ []) (drop c.in-Ok.a
+implied-space : (t : ℕ) (c : implied-Else-not-starts t)
+    → begins (32 ∷ []) (drop c.in_ok-a.a
     c.args.s.now) ≡ true
-implied-space t c = sym c.starts.ensures ∙ c.if-starts.true
+implied-space t c = sym c.starts.ensures ∙ c.if-not-starts.false
 
-joined_first : (t : ℕ) (c : joined-In-Ok t) → let a = c.args in Part a.s.now a.from.now a.to.now a.arity.now a.m a.sc a.room a.at c.in-Ok.a c.in-Ok.n
+joined_first : (t : ℕ) (c : joined-In_ok-a t) → let a = c.args in Part a.s.now a.from.now a.to.now a.arity.now a.m a.sc a.room a.at c.in_ok-a.a c.in_ok-a.n
 joined_first t c =
-    found _ _ _ c.args.s.now _ c.requires.0 c.in-Ok.is c.scan-f.ensures
+    found _ _ _ c.args.s.now _ c.requires.0 c.in_ok-a.was c.scan.ensures
 
-negated-first : (t : ℕ) (c : negated-In-Ok t) → let a = c.args in Part a.s.now a.from.now a.to.now a.arity.now a.m a.sc a.room a.at c.in-Ok.a c.in-Ok.n
+negated-first : (t : ℕ) (c : negated-In_ok-a t) → let a = c.args in Part a.s.now a.from.now a.to.now a.arity.now a.m a.sc a.room a.at c.in_ok-a.a c.in_ok-a.n
 negated-first t c =
-    found _ _ _ c.args.s.now _ c.requires.0 c.in-Ok.is c.scan-f.ensures
+    found _ _ _ c.args.s.now _ c.requires.0 c.in_ok-a.was c.scan.ensures
 
 -- a space is there
 module _ (t : ℕ) (c : parts-In-loop-sc t) where
@@ -57,9 +57,9 @@ module _ (t : ℕ) (c : parts-In-loop-sc t) where
   parts-inside : c.loop-sc.i + 1 ≤ length c.args.s.now
   parts-inside = room (32 ∷ []) c.args.s.now _ c.loop-sc.invariant.0 parts-space
 
-parts-one : (t : ℕ) (c : parts-In-Ok t) → c.loop-sc.i + 1 ≤ length c.args.s.now
-    → let a = c.args in Part a.s.now a.from.now a.to.now a.arity.now a.m a.sc a.room (c.loop-sc.i + 1) c.in-Ok.next c.in-Ok.g
-parts-one t c in-text = found _ _ _ c.args.s.now _ in-text c.in-Ok.is c.scan-f.ensures
+parts-one : (t : ℕ) (c : parts-In_ok-next t) → c.loop-sc.i + 1 ≤ length c.args.s.now
+    → let a = c.args in Part a.s.now a.from.now a.to.now a.arity.now a.m a.sc a.room (c.loop-sc.i + 1) c.in_ok-next.next c.in_ok-next.g
+parts-one t c in-text = found _ _ _ c.args.s.now _ in-text c.in_ok-next.was c.scan.ensures
 
 -- the form's word is in the text, and what its function reads after it is the formula
 module _ (t : ℕ) (c : scan-After-kind_at-k t) (k : Form) (told : c.kind_at-k.result ≡ k) where
@@ -73,128 +73,127 @@ module _ (t : ℕ) (c : scan-After-kind_at-k t) (k : Form) (told : c.kind_at-k.r
   scan-as rs types sc =
       let a = c.args in read_after k told a.s.now a.at c.kind_at-k.ensures rs types sc _ c.if-room-eq0.false
 
-pub bound-typed_at-v-requires : goal.bound-typed_at-v-requires
-bound-typed_at-v-requires t c = c.requires.0
+pub bound-typed_at-requires : goal.bound-typed_at-requires
+bound-typed_at-requires t c = c.requires.0
 
-pub bound-typed_vars-vs-requires : goal.bound-typed_vars-vs-requires
-bound-typed_vars-vs-requires t c = (found_typed _ c.args.s.now c.requires.0 c.in-Ok.is c.typed_at-v.ensures).within
+pub bound-typed_vars-requires : goal.bound-typed_vars-requires
+bound-typed_vars-requires t c = (found_typed _ c.args.s.now c.requires.0 c.in_ok-a.was c.typed_at.ensures).within
 
 pub bound-starts-requires : goal.bound-starts-requires
-bound-starts-requires t c = (bound-list t (goal.at.bound-starts-requires t c).In-Ok-vs).others.within
+bound-starts-requires t c = (bound-list t (goal.at.bound-starts-requires t c).In_ok-b).others.within
 
 pub bound-both-list-requires : goal.bound-both-list-requires
-bound-both-list-requires t c = let l = bound-list t (goal.at.bound-both-list-requires t c).In-Ok-vs in omega (arith, (two_fit l.one l.others c.well_formed.0.1).1)
+bound-both-list-requires t c = let l = bound-list t (goal.at.bound-both-list-requires t c).In_ok-b in omega (arith, (two_fit l.one l.others c.well_formed.0.1).1)
 
 pub bound-grow-g-requires : goal.bound-grow-g-requires
 bound-grow-g-requires t c = c.requires.2
 
 pub bound-overflow_add-b : goal.bound-overflow_add-b
-bound-overflow_add-b t c = omega (arith, past_list (bound-list t (goal.at.bound-overflow_add-b t c).In-Ok-vs) (bound-stop t (goal.at.bound-overflow_add-b t c).Then-starts), c.well_formed.0.0)
+bound-overflow_add-b t c = omega (arith, past_list (bound-list t (goal.at.bound-overflow_add-b t c).In_ok-b) (bound-stop t (goal.at.bound-overflow_add-b t c).Else-not-starts), c.well_formed.0.0)
 
-pub bound-scan-f-requires : goal.bound-scan-f-requires
-bound-scan-f-requires t c = (omega (arith, c.decreases), (past_list (bound-list t (goal.at.bound-scan-f-requires t c).In-Ok-vs) (bound-stop t (goal.at.bound-scan-f-requires t c).Then-starts), c.requires.1, c.grow-g.ensures.small))
+pub bound-scan-requires : goal.bound-scan-requires
+bound-scan-requires t c = (omega (arith, c.decreases), (past_list (bound-list t (goal.at.bound-scan-requires t c).In_ok-b) (bound-stop t (goal.at.bound-scan-requires t c).Else-not-starts), c.requires.1, c.grow-g.ensures.small))
 
 pub bound-shut_quant-requires : goal.bound-shut_quant-requires
 bound-shut_quant-requires t c =
-    let l = bound-list t (goal.at.bound-shut_quant-requires t c).In-Ok-vs in
-    let f = found _ _ _ c.args.s.now _ (past_list l (bound-stop t (goal.at.bound-shut_quant-requires t c).Then-starts)) c.in-Ok-f.is c.scan-f.ensures in
+    let l = bound-list t (goal.at.bound-shut_quant-requires t c).In_ok-b in
+    let f = found _ _ _ c.args.s.now _ (past_list l (bound-stop t (goal.at.bound-shut_quant-requires t c).Else-not-starts)) c.in_ok-e.was c.scan.ensures in
     quant_fits l c.both-list.ensures f c.well_formed.0.1
 
-pub bound-returns-in-Bad : goal.bound-returns-in-Bad
-bound-returns-in-Bad t c = λ q. let a = c.args in quant_bad _ _ _ a.s.now a.at _ q (sym c.in-Bad.is ∙ c.typed_at-v.ensures)
+pub bound-returns-in_err-a : goal.bound-returns-in_err-a
+bound-returns-in_err-a t c = λ q. let a = c.args in c.from_residual.ensures ∙ quant_bad _ _ _ a.s.now a.at _ q c.in_err-a.ensures
 
-pub bound-returns-in-Bad-vs : goal.bound-returns-in-Bad-vs
-bound-returns-in-Bad-vs t c =
-    λ q. let one = found_typed _ c.args.s.now c.requires.0 c.in-Ok.is c.typed_at-v.ensures in
-    quant_bad_2 _ _ _ _ _ _ q _ _ one (sym c.in-Bad-vs.is ∙ c.typed_vars-vs.ensures)
+pub bound-returns-in_err-b : goal.bound-returns-in_err-b
+bound-returns-in_err-b t c =
+    λ q. let one = found_typed _ c.args.s.now c.requires.0 c.in_ok-a.was c.typed_at.ensures in
+    c.from_residual-in_err-b.ensures ∙ quant_bad_2 _ _ _ _ _ _ q _ _ one c.in_err-b.ensures
 
-pub bound-returns-in-Bad-f : goal.bound-returns-in-Bad-f
-bound-returns-in-Bad-f t c =
-    λ q. let l = bound-list t (goal.at.bound-returns-in-Bad-f t c).In-Ok-vs in
-    quant_bad_3 _ _ _ _ _ _ q _ _ l.one _ _ l.others _ (bound-stop t (goal.at.bound-returns-in-Bad-f t c).Then-starts) (sym c.in-Bad-f.is ∙ c.scan-f.ensures)
+pub bound-returns-in_err-e : goal.bound-returns-in_err-e
+bound-returns-in_err-e t c =
+    λ q. let l = bound-list t (goal.at.bound-returns-in_err-e t c).In_ok-b in
+    c.from_residual-in_err-e.ensures ∙ quant_bad_3 _ _ _ _ _ _ q _ _ l.one _ _ l.others _ (bound-stop t (goal.at.bound-returns-in_err-e t c).Else-not-starts) c.in_err-e.ensures
 
-pub bound-returns-in-Ok-f : goal.bound-returns-in-Ok-f
-bound-returns-in-Ok-f t c =
-    λ q. let l = bound-list t (goal.at.bound-returns-in-Ok-f t c).In-Ok-vs in
-    let stop = bound-stop t (goal.at.bound-returns-in-Ok-f t c).Then-starts in let a = c.args in let f = found _ _ _ a.s.now _ (past_list l stop) c.in-Ok-f.is c.scan-f.ensures in
+pub bound-returns : goal.bound-returns
+bound-returns t c =
+    λ q. let l = bound-list t (goal.at.bound-returns t c).In_ok-b in
+    let stop = bound-stop t (goal.at.bound-returns t c).Else-not-starts in let a = c.args in let f = found _ _ _ a.s.now _ (past_list l stop) c.in_ok-e.was c.scan.ensures in
     c.shut_quant.ensures ∙ quant_done l c.both-list.ensures _ _ _ stop
     c.grow-g.ensures f q
 
-pub bound-returns-else-starts : goal.bound-returns-else-starts
-bound-returns-else-starts t c = λ q. let l = bound-list t (goal.at.bound-returns-else-starts t c).In-Ok-vs in quant_gap _ _ _ _ _ _ q _ _ l.one _ _ l.others (sym c.starts.ensures ∙ c.if-starts.false)
+pub bound-returns-then-not-starts : goal.bound-returns-then-not-starts
+bound-returns-then-not-starts t c = λ q. let l = bound-list t (goal.at.bound-returns-then-not-starts t c).In_ok-b in quant_gap _ _ _ _ _ _ q _ _ l.one _ _ l.others (sym c.starts.ensures ∙ c.if-not-starts.true)
 
-pub implied-scan-f-requires : goal.implied-scan-f-requires
-implied-scan-f-requires t c = (omega (arith, c.decreases), c.requires)
+pub implied-scan-requires : goal.implied-scan-requires
+implied-scan-requires t c = (omega (arith, c.decreases), c.requires)
 
 pub implied-starts-requires : goal.implied-starts-requires
-implied-starts-requires t c = (implied-first t (goal.at.implied-starts-requires t c).In-Ok).within
+implied-starts-requires t c = (implied-first t (goal.at.implied-starts-requires t c).In_ok-a).within
 
 pub implied-overflow_add-a : goal.implied-overflow_add-a
-implied-overflow_add-a t c = omega (arith, past_space (implied-first t (goal.at.implied-overflow_add-a t c).In-Ok) (implied-space t c), c.well_formed.0.0)
+implied-overflow_add-a t c = omega (arith, past_space (implied-first t (goal.at.implied-overflow_add-a t c).In_ok-a) (implied-space t c), c.well_formed.0.0)
 
-pub implied-scan-g-requires : goal.implied-scan-g-requires
-implied-scan-g-requires t c = (omega (arith, c.decreases), (past_space (implied-first t (goal.at.implied-scan-g-requires t c).In-Ok) (implied-space t c), c.requires.1, c.requires.2))
+pub implied-scan-requires-2 : goal.implied-scan-requires-2
+implied-scan-requires-2 t c = (omega (arith, c.decreases), (past_space (implied-first t (goal.at.implied-scan-requires-2 t c).In_ok-a) (implied-space t c), c.requires.1, c.requires.2))
 
 pub implied-shut_two-requires : goal.implied-shut_two-requires
 implied-shut_two-requires t c =
-    let f = implied-first t (goal.at.implied-shut_two-requires t c).In-Ok in
-    let g = found _ _ _ c.args.s.now _ (past_space f (implied-space t (goal.at.implied-shut_two-requires t c).Then-starts)) c.in-Ok-g.is c.scan-g.ensures in
+    let f = implied-first t (goal.at.implied-shut_two-requires t c).In_ok-a in
+    let g = found _ _ _ c.args.s.now _ (past_space f (implied-space t (goal.at.implied-shut_two-requires t c).Else-not-starts)) c.in_ok-b.was c.scan-2.ensures in
     two_fit f g c.well_formed.0.1
 
-pub implied-returns-in-Bad : goal.implied-returns-in-Bad
-implied-returns-in-Bad t c = let a = c.args in imp_bad _ _ _ a.s.now a.at _ (sym c.in-Bad.is ∙ c.scan-f.ensures)
+pub implied-returns-in_err-a : goal.implied-returns-in_err-a
+implied-returns-in_err-a t c = let a = c.args in c.from_residual.ensures ∙ imp_bad _ _ _ a.s.now a.at _ c.in_err-a.ensures
 
-pub implied-returns-in-Bad-g : goal.implied-returns-in-Bad-g
-implied-returns-in-Bad-g t c = imp_bad_2 _ _ _ _ _ _ _ _ (implied-first t (goal.at.implied-returns-in-Bad-g t c).In-Ok) (implied-space t (goal.at.implied-returns-in-Bad-g t c).Then-starts) (sym c.in-Bad-g.is ∙ c.scan-g.ensures)
+pub implied-returns-in_err-b : goal.implied-returns-in_err-b
+implied-returns-in_err-b t c = c.from_residual-in_err-b.ensures ∙ imp_bad_2 _ _ _ _ _ _ _ _ (implied-first t (goal.at.implied-returns-in_err-b t c).In_ok-a) (implied-space t (goal.at.implied-returns-in_err-b t c).Else-not-starts) c.in_err-b.ensures
 
-pub implied-returns-in-Ok-g : goal.implied-returns-in-Ok-g
-implied-returns-in-Ok-g t c =
-    let a = c.args in let f = implied-first t (goal.at.implied-returns-in-Ok-g t c).In-Ok in
-    let g = found _ _ _ a.s.now _ (past_space f (implied-space t (goal.at.implied-returns-in-Ok-g t c).Then-starts)) c.in-Ok-g.is
-    c.scan-g.ensures in
-    c.shut_two.ensures ∙ imp_ok _ _ _ _ _ _ _ _ f (implied-space t (goal.at.implied-returns-in-Ok-g t c).Then-starts) _ _ g
+pub implied-returns : goal.implied-returns
+implied-returns t c =
+    let a = c.args in let f = implied-first t (goal.at.implied-returns t c).In_ok-a in
+    let g = found _ _ _ a.s.now _ (past_space f (implied-space t (goal.at.implied-returns t c).Else-not-starts)) c.in_ok-b.was c.scan-2.ensures in
+    c.shut_two.ensures ∙ imp_ok _ _ _ _ _ _ _ _ f (implied-space t (goal.at.implied-returns t c).Else-not-starts) _ _ g
 
-pub implied-returns-else-starts : goal.implied-returns-else-starts
-implied-returns-else-starts t c = imp_gap _ _ _ _ _ _ _ _ (implied-first t (goal.at.implied-returns-else-starts t c).In-Ok) (sym c.starts.ensures ∙ c.if-starts.false)
+pub implied-returns-then-not-starts : goal.implied-returns-then-not-starts
+implied-returns-then-not-starts t c = imp_gap _ _ _ _ _ _ _ _ (implied-first t (goal.at.implied-returns-then-not-starts t c).In_ok-a) (sym c.starts.ensures ∙ c.if-not-starts.true)
 
-pub joined-scan-f-requires : goal.joined-scan-f-requires
-joined-scan-f-requires t c = (omega (arith, c.decreases), c.requires)
+pub joined-scan-requires : goal.joined-scan-requires
+joined-scan-requires t c = (omega (arith, c.decreases), c.requires)
 
 pub joined-overflow_sub-s : goal.joined-overflow_sub-s
-joined-overflow_sub-s t c = (joined_first t (goal.at.joined-overflow_sub-s t c).In-Ok).within
+joined-overflow_sub-s t c = (joined_first t (goal.at.joined-overflow_sub-s t c).In_ok-a).within
 
-pub joined-parts-fs-requires : goal.joined-parts-fs-requires
-joined-parts-fs-requires t c = (omega (arith, c.decreases), ((joined_first t (goal.at.joined-parts-fs-requires t c).In-Ok).within, c.requires.1, c.requires.2))
+pub joined-parts-requires : goal.joined-parts-requires
+joined-parts-requires t c = (omega (arith, c.decreases), ((joined_first t (goal.at.joined-parts-requires t c).In_ok-a).within, c.requires.1, c.requires.2))
 
 pub joined-shut_two-requires : goal.joined-shut_two-requires
 joined-shut_two-requires t c =
-    let f = joined_first t (goal.at.joined-shut_two-requires t c).In-Ok in
-    let fs = found_parts _ _ _ c.args.s.now _ _ f.within c.in-Ok-fs.is c.parts-fs.ensures in
+    let f = joined_first t (goal.at.joined-shut_two-requires t c).In_ok-a in
+    let fs = found_parts _ _ _ c.args.s.now _ _ f.within c.in_ok-b.was c.parts.ensures in
     two_fit f fs c.well_formed.0.1
 
-pub joined-returns-in-Bad : goal.joined-returns-in-Bad
-joined-returns-in-Bad t c = λ j. let a = c.args in join_bad _ _ _ a.s.now a.at _ j (sym c.in-Bad.is ∙ c.scan-f.ensures)
+pub joined-returns-in_err-a : goal.joined-returns-in_err-a
+joined-returns-in_err-a t c = λ j. let a = c.args in c.from_residual.ensures ∙ join_bad _ _ _ a.s.now a.at _ j c.in_err-a.ensures
 
-pub joined-returns-in-Bad-fs : goal.joined-returns-in-Bad-fs
-joined-returns-in-Bad-fs t c = λ j. join_bad_2 _ _ _ _ _ _ j _ _ (joined_first t (goal.at.joined-returns-in-Bad-fs t c).In-Ok) (sym c.in-Bad-fs.is ∙ c.parts-fs.ensures)
+pub joined-returns-in_err-b : goal.joined-returns-in_err-b
+joined-returns-in_err-b t c = λ j. c.from_residual-in_err-b.ensures ∙ join_bad_2 _ _ _ _ _ _ j _ _ (joined_first t (goal.at.joined-returns-in_err-b t c).In_ok-a) c.in_err-b.ensures
 
-pub joined-returns-in-Ok-fs : goal.joined-returns-in-Ok-fs
-joined-returns-in-Ok-fs t c =
-    λ j. let a = c.args in let f = joined_first t (goal.at.joined-returns-in-Ok-fs t c).In-Ok in
-    let fs = found_parts _ _ _ a.s.now _ _ f.within c.in-Ok-fs.is c.parts-fs.ensures in
+pub joined-returns : goal.joined-returns
+joined-returns t c =
+    λ j. let a = c.args in let f = joined_first t (goal.at.joined-returns t c).In_ok-a in
+    let fs = found_parts _ _ _ a.s.now _ _ f.within c.in_ok-b.was c.parts.ensures in
     c.shut_two.ensures ∙ join_ok _ _ _ _ _ _ j _ _ f _ _ fs
 
-pub negated-scan-f-requires : goal.negated-scan-f-requires
-negated-scan-f-requires t c = (omega (arith, c.decreases), c.requires)
+pub negated-scan-requires : goal.negated-scan-requires
+negated-scan-requires t c = (omega (arith, c.decreases), c.requires)
 
 pub negated-shut_one-requires : goal.negated-shut_one-requires
-negated-shut_one-requires t c = one_fits (negated-first t (goal.at.negated-shut_one-requires t c).In-Ok) c.well_formed.0.1
+negated-shut_one-requires t c = one_fits (negated-first t (goal.at.negated-shut_one-requires t c).In_ok-a) c.well_formed.0.1
 
-pub negated-returns-in-Bad : goal.negated-returns-in-Bad
-negated-returns-in-Bad t c = let a = c.args in neg_bad _ _ _ a.s.now a.at _ (sym c.in-Bad.is ∙ c.scan-f.ensures)
+pub negated-returns-in_err-a : goal.negated-returns-in_err-a
+negated-returns-in_err-a t c = let a = c.args in c.from_residual.ensures ∙ neg_bad _ _ _ a.s.now a.at _ c.in_err-a.ensures
 
-pub negated-returns-in-Ok : goal.negated-returns-in-Ok
-negated-returns-in-Ok t c = c.shut_one.ensures ∙ neg_ok _ _ _ _ _ _ _ _ (negated-first t (goal.at.negated-returns-in-Ok t c).In-Ok)
+pub negated-returns : goal.negated-returns
+negated-returns t c = c.shut_one.ensures ∙ neg_ok _ _ _ _ _ _ _ _ (negated-first t (goal.at.negated-returns t c).In_ok-a)
 
 pub parts-loop-sc-init : goal.parts-loop-sc-init
 parts-loop-sc-init t c = (c.requires.0, omega arith, turn_first _)
@@ -205,17 +204,17 @@ parts-returns-then-more-eq0 t c = turn_bad _ _ _ c.loop-sc.invariant.2 (parts_fu
 pub parts-overflow_add-i : goal.parts-overflow_add-i
 parts-overflow_add-i t c = omega (arith, parts-inside t (goal.at.parts-overflow_add-i t c).In-loop-sc)
 
-pub parts-scan-f-requires : goal.parts-scan-f-requires
-parts-scan-f-requires t c = (omega (arith, c.decreases), (parts-inside t (goal.at.parts-scan-f-requires t c).In-loop-sc, c.requires.1, c.requires.2))
+pub parts-scan-requires : goal.parts-scan-requires
+parts-scan-requires t c = (omega (arith, c.decreases), (parts-inside t (goal.at.parts-scan-requires t c).In-loop-sc, c.requires.1, c.requires.2))
 
-pub parts-returns-in-Bad : goal.parts-returns-in-Bad
-parts-returns-in-Bad t c =
-    turn_bad _ _ _ c.loop-sc.invariant.2 (parts_bad _ _ _ c.args.s.now c.loop-sc.i _ _ c.if-more-eq0.false
-    (parts-space t (goal.at.parts-returns-in-Bad t c).In-loop-sc)
-    (sym c.in-Bad.is ∙ c.scan-f.ensures))
+pub parts-returns-in_err-next : goal.parts-returns-in_err-next
+parts-returns-in_err-next t c =
+    c.from_residual.ensures ∙ turn_bad _ _ _ c.loop-sc.invariant.2 (parts_bad _ _ _ c.args.s.now c.loop-sc.i _ _ c.if-more-eq0.false
+    (parts-space t (goal.at.parts-returns-in_err-next t c).In-loop-sc)
+    c.in_err-next.ensures)
 
 pub parts-both-said-requires : goal.parts-both-said-requires
-parts-both-said-requires t c = let f = parts-one t (goal.at.parts-both-said-requires t c).In-Ok (parts-inside t (goal.at.parts-both-said-requires t c).In-loop-sc) in omega (arith, f.small, f.within, c.well_formed.0.0)
+parts-both-said-requires t c = let f = parts-one t (goal.at.parts-both-said-requires t c).In_ok-next (parts-inside t (goal.at.parts-both-said-requires t c).In-loop-sc) in omega (arith, f.small, f.within, c.well_formed.0.0)
 
 pub parts-overflow_sub-more : goal.parts-overflow_sub-more
 parts-overflow_sub-more t c = omega arith
@@ -225,7 +224,7 @@ parts-loop-sc-smaller t c = omega arith
 
 pub parts-loop-sc-preserved : goal.parts-loop-sc-preserved
 parts-loop-sc-preserved t c =
-    let f = parts-one t (goal.at.parts-loop-sc-preserved t c).In-Ok (parts-inside t (goal.at.parts-loop-sc-preserved t c).In-loop-sc) in
+    let f = parts-one t (goal.at.parts-loop-sc-preserved t c).In_ok-next (parts-inside t (goal.at.parts-loop-sc-preserved t c).In-loop-sc) in
     turn _ _ f c.both-said.ensures c.loop-sc.invariant.1 c.loop-sc.invariant.2
     (parts_turn _ _ _ _ c.loop-sc.i _ _ _ _ f c.if-more-eq0.false (parts-space t (goal.at.parts-loop-sc-preserved t c).In-loop-sc))
 

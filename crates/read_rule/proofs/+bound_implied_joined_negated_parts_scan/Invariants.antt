@@ -5,7 +5,7 @@ use Prim.Native.Nat.{◌+◌, ◌*◌, ◌≤◌, ℕ}
 use lib.ListN.{length, drop}
 use Rattle.definitions.specs.Sheet.Parsing.{read_parts, read}
 use Rattle.read_names.specs.Signatures.{lent_of, all_of, types_in}
-use Rattle.read_rule.specs.declared.Scanned.{Scanned}
+use Rattle.read_rule.specs.Seen.{Scanned}
 use Rattle.read_rule.specs.Seen.{seen, names, facts_all}
 use Rattle.read_rule.specs.Turns.{after}
 use Rattle.read_rule.proofs.+bound_implied_joined_negated_parts_scan.Given as goal

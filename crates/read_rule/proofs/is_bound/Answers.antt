@@ -23,12 +23,6 @@ bounds-sc-i-in-loop-i c = omega arith
 pub returns-then-same_span : goal.returns-then-same_span
 returns-then-same_span c = let l = c.loop-i in sym (l.invariant.1 ∙ bound_yes _ _ _ _ c.args.sc.n l.i (omega arith) (sym c.same_span.ensures ∙ c.if-same_span.true))
 
-pub overflow_add-i : goal.overflow_add-i
-overflow_add-i c = omega arith
-
-pub loop-i-smaller : goal.loop-i-smaller
-loop-i-smaller c = omega arith
-
 pub loop-i-preserved : goal.loop-i-preserved
 loop-i-preserved c = let l = c.loop-i in let n = c.args.sc.n in (omega arith, l.invariant.1 ∙ bound_no _ _ _ _ n l.i (omega arith) (sym c.same_span.ensures ∙ c.if-same_span.false))
 

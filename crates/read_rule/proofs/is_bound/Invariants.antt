@@ -8,6 +8,3 @@ use Rattle.read_rule.proofs.is_bound.Given as goal
 
 abbrev pub invariant-loop-i : goal.invariant-loop-i
 invariant-loop-i l = (l.i ≤ l.sc.n) × (is_bound (names l.s l.sc) (slice l.a l.e l.s) ≡ is_bound (spans l.s l.sc.from l.sc.to (l.sc.n - l.i) l.i) (slice l.a l.e l.s))
-
-abbrev pub decreases-loop-i : goal.decreases-loop-i
-decreases-loop-i l = l.sc.n - l.i

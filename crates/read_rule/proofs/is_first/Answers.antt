@@ -1,20 +1,11 @@
 -- `is_first` meets its contract.
-use borrow.Author.Tests.{le-leb, lt-leb}
 use Rattle.definitions.specs.Sheet.Text.{is_small, is_capital, is_between}
 use Rattle.read_rule.proofs.is_first.Goals as goal
 
-pub returns-then-c-ge97 : goal.returns-then-c-ge97
+pub returns-then-var : goal.returns-then-var
 unfolding is_small is_between
-returns-then-c-ge97 c = rw (c.if-var.true, le-leb 97 _ c.if-c-ge97.true)
+returns-then-var c = rw c.if-var.true c.is_ascii_lowercase.ensures.value
 
-pub returns-else-c-ge97 : goal.returns-else-c-ge97
-unfolding is_small is_between
-returns-else-c-ge97 c = rw (c.if-var.true, lt-leb 97 _ c.if-c-ge97.false)
-
-pub returns-then-c-ge65 : goal.returns-then-c-ge65
+pub returns-else-var : goal.returns-else-var
 unfolding is_capital is_between
-returns-then-c-ge65 c = rw (c.if-var.false, le-leb 65 _ c.if-c-ge65.true)
-
-pub returns-else-c-ge65 : goal.returns-else-c-ge65
-unfolding is_capital is_between
-returns-else-c-ge65 c = rw (c.if-var.false, lt-leb 65 _ c.if-c-ge65.false)
+returns-else-var c = rw c.if-var.false c.is_ascii_uppercase.ensures.value

@@ -10,26 +10,26 @@ use Rattle.read_rule.proofs.rule_verdict.Goals as goal
 pub judge-requires : goal.judge-requires
 judge-requires c =
     let lent = seen_lent _ c.args.sig _ refl c.requires.3 c.requires.4 c.requires.5 _ _ _ _ in
-    let f = found _ _ _ c.args.text.now _ {at = c.args.at} (omega (arith, c.requires.0, c.requires.1)) c.in-Ok.is
-    (c.scan-f.ensures ∙ lent) in
-    (omega (arith, f.small, f.within, c.well_formed.0.1), c.totalities-t.ensures.1)
+    let f = found _ _ _ c.args.text.now _ {at = c.args.at} (omega (arith, c.requires.0, c.requires.1)) c.in-Some.is
+    (c.scan.ensures ∙ lent) in
+    (omega (arith, f.small, f.within, c.well_formed.0.1), c.totalities.ensures.1)
 
-pub returns-in-Bad : goal.returns-in-Bad
-returns-in-Bad c =
+pub returns-in_default : goal.returns-in_default
+returns-in_default c =
     let a = c.args in verdict_bad _ _ (chosen_of a.text.now a.sig) _ a.text.now a.at a.end c.requires.0 c.requires.1
-    (sym c.in-Bad.is ∙ c.scan-f.ensures ∙ seen_lent _ a.sig _ refl c.requires.3 c.requires.4 c.requires.5 _ _ _ _)
+    (sym c.in_default.is ∙ c.scan.ensures ∙ seen_lent _ a.sig _ refl c.requires.3 c.requires.4 c.requires.5 _ _ _ _)
+
+pub returns : goal.returns
+returns c =
+    let a = c.args in let lent = seen_lent _ a.sig _ refl c.requires.3 c.requires.4 c.requires.5 _ _ _ _ in
+    let f = found _ _ _ a.text.now _ {at = a.at} (omega (arith, c.requires.0, c.requires.1)) c.in-Some.is (c.scan.ensures
+    ∙ lent) in
+    c.judge.ensures ∙ verdict_ok _ _ _ _ _ _ a.end c.requires.0 c.requires.1 _ _ f _ (names_none _ _ _) c.if-next-end.false
+    (c.totalities.ensures.0 a.text.now)
 
 pub returns-then-next-end : goal.returns-then-next-end
 returns-then-next-end c =
     let a = c.args in let lent = seen_lent _ a.sig _ refl c.requires.3 c.requires.4 c.requires.5 _ _ _ _ in
-    let f = found _ _ _ a.text.now _ {at = a.at} (omega (arith, c.requires.0, c.requires.1)) c.in-Ok.is (c.scan-f.ensures
+    let f = found _ _ _ a.text.now _ {at = a.at} (omega (arith, c.requires.0, c.requires.1)) c.in-Some.is (c.scan.ensures
     ∙ lent) in
-    c.judge.ensures ∙ verdict_ok _ _ _ _ _ _ a.end c.requires.0 c.requires.1 _ _ f _ (names_none _ _ _) c.if-next-end.true
-    (c.totalities-t.ensures.0 a.text.now)
-
-pub returns-else-next-end : goal.returns-else-next-end
-returns-else-next-end c =
-    let a = c.args in let lent = seen_lent _ a.sig _ refl c.requires.3 c.requires.4 c.requires.5 _ _ _ _ in
-    let f = found _ _ _ a.text.now _ {at = a.at} (omega (arith, c.requires.0, c.requires.1)) c.in-Ok.is (c.scan-f.ensures
-    ∙ lent) in
-    verdict_other _ _ (chosen_of a.text.now a.sig) _ _ _ a.end c.requires.0 c.requires.1 _ _ f c.if-next-end.false
+    verdict_other _ _ (chosen_of a.text.now a.sig) _ _ _ a.end c.requires.0 c.requires.1 _ _ f c.if-next-end.true

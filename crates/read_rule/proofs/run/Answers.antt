@@ -1,4 +1,5 @@
-use mathlib.Core.Path.{refl, sym, ◌∙◌}
+use mathlib.Core.Path.{◌≡◌, refl, sym, ◌∙◌}
+use lib.ListN.{length}
 use native.Mathlib.Omega.{arith}
 use borrow.Author.Rules.{rules}
 use Rattle.read_rule.specs.Steps.{run_in, run_out, run_end}
@@ -13,14 +14,10 @@ bounds-s-i c = omega arith
 pub returns-then-not-is_inside : goal.returns-then-not-is_inside
 returns-then-not-is_inside c = sym (c.loop-i.invariant.1 ∙ run_out _ c.args.s.now c.loop-i.i (omega arith) (sym c.is_inside.ensures ∙ c.if-not-is_inside.true))
 
-pub overflow_add-i : goal.overflow_add-i
-overflow_add-i c = omega arith
-
-pub loop-i-smaller : goal.loop-i-smaller
-loop-i-smaller c = omega arith
-
 pub loop-i-preserved : goal.loop-i-preserved
 loop-i-preserved c = let step = run_in _ c.args.s.now c.loop-i.i (omega arith) (sym c.is_inside.ensures ∙ c.if-not-is_inside.false) in (omega arith, c.loop-i.invariant.1 ∙ step)
 
 pub returns : goal.returns
-returns c = sym (c.loop-i.invariant.1 ∙ run_end _ c.args.s.now c.loop-i.i (omega arith))
+returns c =
+    let e : length c.args.s.now ≡ c.loop-i.i = omega arith in
+    e ∙ sym (c.loop-i.invariant.1 ∙ run_end _ c.args.s.now c.loop-i.i (omega arith))

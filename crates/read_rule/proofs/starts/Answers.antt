@@ -1,37 +1,25 @@
-use mathlib.Core.Path.{refl, sym, ◌∙◌}
+-- `starts` meets its contract.
+use Prim.Native.Nat.{ℕ, ◌-◌}
+use mathlib.Core.Path.{◌≡◌, refl, ap, ◌∙◌}
+use mathlib.Core.List.{List, [], ◌∷◌}
 use native.Mathlib.Omega.{arith}
-use native.Mathlib.Numerals.{add-one}
-use Rattle.laws.specs.Writing.{begins_step, begins_other, begins_short, begins_end}
+use lib.Dec.{eqb}
+use lib.ListN.{length, take, drop, length-drop}
+use Rattle.std.proofs.Common.{take_all}
+use Rattle.std.specs.Cmp.Lexicographic.{pointwise}
+use Rattle.definitions.specs.Sheet.Parsing.{begins}
 use Rattle.read_rule.proofs.starts.Goals as goal
 
-pub loop-i-init : goal.loop-i-init
-loop-i-init c = (omega arith, omega arith, refl)
+-- the library's test is the definitions'
+begins_as : (p l : List ℕ) → pointwise eqb p (take (length p) l) ≡ begins p l
+unfolding begins
+begins_as [] [] = refl
+begins_as [] (b ∷ l) = refl
+begins_as (a ∷ p) [] = refl
+begins_as (a ∷ p) (b ∷ l) = rw (begins_as p l)
 
-pub returns-then-j-s : goal.returns-then-j-s
-returns-then-j-s c = let a = c.args in sym (c.loop-i.invariant.2 ∙ begins_short a.p.now a.s.now c.loop-i.i c.loop-i.j c.loop-i-test.true c.if-j-s.true)
-
-pub bounds-p-i : goal.bounds-p-i
-bounds-p-i c = omega arith
-
-pub bounds-s-j : goal.bounds-s-j
-bounds-s-j c = omega arith
-
-pub returns-then-p-i : goal.returns-then-p-i
-returns-then-p-i c = let a = c.args in sym (c.loop-i.invariant.2 ∙ begins_other a.p.now a.s.now c.loop-i.i c.loop-i.j (omega arith) (omega arith) c.if-p-i.true)
-
-pub overflow_add-i : goal.overflow_add-i
-overflow_add-i c = omega arith
-
-pub overflow_add-j : goal.overflow_add-j
-overflow_add-j c = omega arith
-
-pub loop-i-smaller : goal.loop-i-smaller
-loop-i-smaller c = omega arith
-
-pub loop-i-preserved : goal.loop-i-preserved
-loop-i-preserved c =
-    let a = c.args in let step = begins_step a.p.now a.s.now c.loop-i.i c.loop-i.j (omega arith) (omega arith) c.if-p-i.false in
-    (omega arith, omega arith, c.loop-i.invariant.2 ∙ rw (add-one c.loop-i.i, add-one c.loop-i.j) step)
+rest : (at : ℕ) (s : List ℕ) → take (length s - at) (drop at s) ≡ drop at s
+rest at s = take_all (length s - at) (drop at s) (omega (arith, length-drop at s))
 
 pub returns : goal.returns
-returns c = sym (c.loop-i.invariant.2 ∙ begins_end c.args.p.now _ c.loop-i.i (omega arith))
+returns c = c.starts_with.ensures.value ∙ begins_as _ _ ∙ ap (begins c.args.p.now) (rest c.args.at c.args.s.now)

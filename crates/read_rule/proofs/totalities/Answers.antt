@@ -18,12 +18,6 @@ bounds-sig-i c = omega arith
 pub overflow_add-t : goal.overflow_add-t
 overflow_add-t c = omega (arith, c.total-one.ensures, total_le (get_or c.args.sig.kind c.loop-i.i 0))
 
-pub overflow_add-i : goal.overflow_add-i
-overflow_add-i c = omega arith
-
-pub loop-i-smaller : goal.loop-i-smaller
-loop-i-smaller c = omega arith
-
 pub loop-i-preserved : goal.loop-i-preserved
 loop-i-preserved c =
     let a = c.args in let l = c.loop-i in let le = total_le (get_or a.sig.kind l.i 0) in

@@ -8,6 +8,3 @@ use Rattle.read_rule.proofs.totalities.Given as goal
 
 abbrev pub invariant-loop-i : goal.invariant-loop-i
 invariant-loop-i l = (l.i ≤ l.end) × (l.end ≡ l.sig.rels + l.sig.chosen) × (l.sig.rels + l.t ≤ l.i) × ((q : List ℕ) → totals (chosen_of q l.sig) ≡ l.t + totals (relations_from q l.sig l.i (l.end - l.i)))
-
-abbrev pub decreases-loop-i : goal.decreases-loop-i
-decreases-loop-i l = l.end - l.i

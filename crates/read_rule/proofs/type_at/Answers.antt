@@ -16,17 +16,16 @@ module _ (c : Then-starts) where
   inside : c.args.at + 1 ≤ length c.args.s.now
   inside = room (58 ∷ []) c.args.s.now _ c.requires colon
 
-pub word-w-requires : goal.word-w-requires
-word-w-requires c = inside c
+pub word-requires : goal.word-requires
+word-requires c = inside c
 
-pub returns-in-Bad : goal.returns-in-Bad
-returns-in-Bad c = λ v. let a = c.args in type_bad _ a.s.now a.at v (colon (goal.at.returns-in-Bad c).Then-starts) (sym c.in-Bad.is ∙ c.word-w.ensures)
+pub returns-in_err-e : goal.returns-in_err-e
+returns-in_err-e c = λ v. let a = c.args in c.from_residual.ensures ∙ type_bad _ a.s.now a.at v (colon (goal.at.returns-in_err-e c).Then-starts) c.in_err-e.ensures
 
-pub returns-in-Ok : goal.returns-in-Ok
-returns-in-Ok c = λ v.
-    let a = c.args in let w = hit _ a.s.now _ _ _ _ (fit_word _ _) (inside (goal.at.returns-in-Ok c).Then-starts) (sym c.in-Ok.is
-    ∙ c.word-w.ensures) in
-    type_ok _ _ a.at v (colon (goal.at.returns-in-Ok c).Then-starts) _ _ _ w c.is_type-declared.ensures
+pub returns-in_ok-e : goal.returns-in_ok-e
+returns-in_ok-e c = λ v.
+    let a = c.args in let w = hit _ a.s.now _ _ _ _ (fit_word _ _) (inside (goal.at.returns-in_ok-e c).Then-starts) c.in_ok-e.ensures in
+    type_ok _ _ a.at v (colon (goal.at.returns-in_ok-e c).Then-starts) _ _ _ w c.is_type-typed.ensures
 
 pub returns-else-starts : goal.returns-else-starts
 returns-else-starts c = λ v. let a = c.args in type_no _ a.s.now a.at v c.requires (sym c.starts.ensures ∙ c.if-starts.false)

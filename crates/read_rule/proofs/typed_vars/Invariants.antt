@@ -5,7 +5,7 @@ use lib.ListN.{length, drop}
 use Rattle.definitions.specs.Sheet.Parsing.{read_more}
 use Rattle.read_names.specs.Signatures.{types_in}
 use Rattle.read_rule.specs.Seen.{seen, more_facts}
-use Rattle.read_rule.specs.declared.Scanned.{Scanned}
+use Rattle.read_rule.specs.Seen.{Scanned}
 use Rattle.read_rule.specs.Turns.{after}
 use Rattle.read_rule.proofs.typed_vars.Given as goal
 

@@ -4,7 +4,7 @@ use mathlib.Core.Path.{◌≡◌}
 use lib.ListN.{length, drop}
 use Rattle.definitions.specs.Sheet.Parsing.{read_vars}
 use Rattle.read_rule.specs.Seen.{seen, names, vars_facts}
-use Rattle.read_rule.specs.declared.Scanned.{Scanned}
+use Rattle.read_rule.specs.Seen.{Scanned}
 use Rattle.read_rule.specs.Turns.{after}
 use Rattle.read_rule.proofs.vars.Given as goal
 

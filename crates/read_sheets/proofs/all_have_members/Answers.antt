@@ -1,7 +1,7 @@
 use mathlib.Core.Path.{refl, sym, ◌∙◌}
 use native.Mathlib.Omega.{arith}
 use Rattle.definitions.specs.Lists.{all, from, below}
-use Rattle.read_sheets.proofs.Loops.{no_member, a_member, each_next, each_fails, each_end}
+use Rattle.read_sheets.proofs.Loops.{no_member, a_member, each_next, each_fails}
 use Rattle.read_sheets.proofs.all_have_members.Goals as goal
 
 pub loop-k-init : goal.loop-k-init
@@ -21,6 +21,3 @@ loop-k-preserved c =
       λ n ms few M.
           each_next _ _ (l.invariant.1 n ms few M) (a_member _ _ n ms few M l.k (λ e. c.if-ones-eq0.false (c.ones.ensures ∙ e))),
     )
-
-pub returns : goal.returns
-returns c = λ n ms few M. each_end _ c.loop-k.k c.args.types (omega arith) (c.loop-k.invariant.1 n ms few M)

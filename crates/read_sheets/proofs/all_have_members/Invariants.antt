@@ -1,5 +1,5 @@
 -- `read_sheets::all_have_members` meets its contract.  The types before k have members.
-use Prim.Native.Nat.{ℕ, ◌-◌, ◌≤◌}
+use Prim.Native.Nat.{ℕ, ◌≤◌}
 use mathlib.Core.Path.{◌≡◌}
 use mathlib.Core.Bool.{true}
 use mathlib.Core.List.{List}
@@ -10,6 +10,3 @@ use Rattle.read_sheets.proofs.all_have_members.Given as goal
 
 abbrev pub invariant-loop-k : goal.invariant-loop-k
 invariant-loop-k l = (l.k ≤ l.types) × ((n : ℕ) (ms : List Member) → n ≤ 64 → MembersAre l.members l.types n ms → all (has_member ms) (below l.k) ≡ true)
-
-abbrev pub decreases-loop-k : goal.decreases-loop-k
-decreases-loop-k l = l.types - l.k

@@ -5,5 +5,5 @@ use Rattle.read_sheets.proofs.is_no_place_for_label.Goals as goal
 pub returns-then-st : goal.returns-then-st
 returns-then-st c = label_joined c.args.st c.if-st.true
 
-pub returns : goal.returns
-returns c = label_unjoined c.args.st _ c.if-st.false c.is_no_place_for_member.ensures
+pub returns-else-st : goal.returns-else-st
+returns-else-st c = label_unjoined c.args.st _ c.if-st.false c.is_no_place_for_member.ensures

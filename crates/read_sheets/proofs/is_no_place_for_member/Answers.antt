@@ -6,5 +6,5 @@ use Rattle.read_sheets.proofs.is_no_place_for_member.Goals as goal
 pub returns-then-st : goal.returns-then-st
 returns-then-st c = member_begun c.args.st c.if-st.true
 
-pub returns : goal.returns
-returns c = member_sized c.args.st _ c.if-st.false refl
+pub returns-else-st : goal.returns-else-st
+returns-else-st c = member_sized c.args.st _ c.if-st.false refl

@@ -3,8 +3,7 @@ use Prim.Native.Nat.{◌-◌, ◌≤◌}
 use mathlib.Core.Path.{◌≡◌}
 use lib.ListN.{length}
 use Rattle.definitions.specs.Sheet.Sheets.{read_steps}
-use Rattle.read_sheets.specs.Reading.{Writes}
-use Rattle.read_sheets.proofs.Numbers.{Reached, Written}
+use Rattle.read_sheets.proofs.Numbers.{Writes, Reached, Written}
 use Rattle.read_sheets.proofs.steps.Given as goal
 
 abbrev pub invariant-loop-at : goal.invariant-loop-at

@@ -48,11 +48,11 @@ loop-i-preserved c =
     let t = span_more c.args.b c.loop-i.i 3 c.args.end c.args.s.now (omega arith) c.requires.1 c.if-s-i-4.false r in
     (omega arith, omega (arith, t))
 
-pub returns-then-s-i-5 : goal.returns-then-s-i-5
-returns-then-s-i-5 c = omega (arith, span_hit c.args.b c.loop-i-2.i c.args.end c.args.s.now (omega arith) c.requires.1 c.if-s-i-5.true)
+pub returns-then-s-k : goal.returns-then-s-k
+returns-then-s-k c = omega (arith, span_hit c.args.b c.loop-k.k c.args.end c.args.s.now (omega arith) c.requires.1 c.if-s-k.true)
 
-pub loop-i-2-preserved : goal.loop-i-2-preserved
-loop-i-2-preserved c = (omega arith, omega (arith, span_miss c.args.b c.loop-i-2.i c.args.end c.args.s.now (omega arith) c.requires.1 c.if-s-i-5.false))
+pub loop-k-preserved : goal.loop-k-preserved
+loop-k-preserved c = (omega arith, omega (arith, span_miss c.args.b c.loop-k.k c.args.end c.args.s.now (omega arith) c.requires.1 c.if-s-k.false))
 
 pub returns : goal.returns
-returns c = omega (arith, span_none c.args.b c.loop-i-2.i c.args.end c.args.s.now (omega arith) (omega arith))
+returns c = omega (arith, span_none c.args.b c.loop-k.k c.args.end c.args.s.now (omega arith) (omega arith))

@@ -11,8 +11,5 @@ invariant-loop-i l = (l.i ≤ l.end) × (l.at + index_of l.b (slice l.at l.end l
 abbrev pub decreases-loop-i : goal.decreases-loop-i
 decreases-loop-i l = l.end - l.i
 
-abbrev pub invariant-loop-i-2 : goal.invariant-loop-i-2
-invariant-loop-i-2 l = (l.i ≤ l.end) × (l.at + index_of l.b (slice l.at l.end l.s) ≡ l.i + index_of l.b (slice l.i l.end l.s))
-
-abbrev pub decreases-loop-i-2 : goal.decreases-loop-i-2
-decreases-loop-i-2 l = l.end - l.i
+abbrev pub invariant-loop-k : goal.invariant-loop-k
+invariant-loop-k l = (l.i ≤ l.k) × (l.at + index_of l.b (slice l.at l.end l.s) ≡ l.k + index_of l.b (slice l.k l.end l.s))

@@ -9,10 +9,6 @@ use Rattle.read_tuples.proofs.count.Goals as goal
 codes : (p : Places) {q : Places} → p ≡ q → length (codes_of q) ≡ length (codes_of p)
 codes p e = rw e
 
-pub returns-in-Unread : goal.returns-in-Unread
-unfolding codes_of
-returns-in-Unread c = codes _ c.in-Unread.is
-
 pub returns-in-One : goal.returns-in-One
 unfolding codes_of
 returns-in-One c = codes _ c.in-One.is

@@ -1,8 +1,6 @@
 -- `read_tuples::label` meets its contract. The element has no label, and no element has the name.
 use Prim.Native.Nat.{◌+◌}
-use mathlib.Core.Path.{◌∙◌}
 use native.Mathlib.Omega.{arith}
-use lib.ListN.{length-set}
 use Rattle.read_tuples.proofs.Naming.{label_by_name, label_wide, label_again, label_used, label_new, added_hinted}
 use Rattle.read_tuples.proofs.label.Goals as goal
 
@@ -19,15 +17,6 @@ pub returns-then-element_named-n : goal.returns-then-element_named-n
 returns-then-element_named-n c =
     let named = c.element_named.ensures in
     label_used _ _ _ _ _ _ _ c.if-k-eq-NAMED.false (omega arith) (λ ls L. omega (arith, named ls L))
-
-pub bounds-labels-x-3 : goal.bounds-labels-x-3
-bounds-labels-x-3 c = simp length-set (omega (arith, c.requires.n_bound.1.1.room))
-
-pub hint-requires : goal.hint-requires
-hint-requires c = (simp length-set c.requires.n_bound.1.1.room, c.slot-first.ensures)
-
-pub shape_of-labels : goal.shape_of-labels
-shape_of-labels c = c.hint.auto.labels ∙ simp length-set
 
 pub returns : goal.returns
 returns c =

@@ -1,7 +1,7 @@
 -- `read_tuples::row` meets its contract.
 use mathlib.Core.List.{[]}
 use native.Mathlib.Omega.{arith}
-use Rattle.read_tuples.proofs.Rows.{row_none, no_row, row_small, places_none, places_1, places_2, places_3}
+use Rattle.read_tuples.proofs.Rows.{row_none, no_row, row_small, places_1, places_2, places_3}
 use Rattle.read_tuples.proofs.row.Goals as goal
 
 pub one_more-requires : goal.one_more-requires
@@ -21,9 +21,6 @@ one_more-b-requires c = (omega arith, row_small _ _ _ (c.one_more-a-in-Three.ens
 
 pub one_more-requires-in-Three : goal.one_more-requires-in-Three
 one_more-requires-in-Three c = (omega arith, row_small _ _ _ (c.one_more-b.ensures _ (c.one_more-a-in-Three.ensures [] (row_none _))) (omega arith) (omega arith))
-
-pub returns-in-Unread : goal.returns-in-Unread
-returns-in-Unread c = places_none c.args.n c.args.p c.in-Unread.is
 
 pub returns-in-One : goal.returns-in-One
 returns-in-One c = places_1 _ _ _ _ c.in-One.is (c.one_more.ensures [] (row_none _))

@@ -1,6 +1,5 @@
 use mathlib.Core.Path.{◌≡◌, sym, ◌∙◌}
 use native.Mathlib.Omega.{arith}
-use lib.Seq.{length-slice}
 use Rattle.read_tuples.proofs.Naming.{not_yet, other_length, other_bytes, found_here, found_nowhere, found_empty}
 use Rattle.read_tuples.proofs.scan.Goals as goal
 use Rattle.read_tuples.proofs.scan.Goals.{then-to-from+else-alike, else-to-from}
@@ -11,48 +10,11 @@ returns-then-wanted-eq0 c = λ ls L. found_empty _ _ c.args.n ls L _ (sym c.span
 pub loop-x-init : goal.loop-x-init
 loop-x-init c = (omega arith, not_yet _ _ _)
 
-pub overflow_mul-from : goal.overflow_mul-from
-overflow_mul-from c = omega (arith, c.loop-x.invariant.0)
-
-pub offset_bounds-labels-x : goal.offset_bounds-labels-x
-offset_bounds-labels-x c = omega arith
-
-pub bounds-labels-x : goal.bounds-labels-x
-bounds-labels-x c = omega (arith, c.requires.1.1.room)
-
-pub overflow_mul-to : goal.overflow_mul-to
-overflow_mul-to c = omega arith
-
-pub overflow_add-to : goal.overflow_add-to
-overflow_add-to c = omega arith
-
-pub offset_bounds-labels-x-in-loop-x : goal.offset_bounds-labels-x-in-loop-x
-offset_bounds-labels-x-in-loop-x c = omega arith
-
-pub bounds-labels-x-in-loop-x : goal.bounds-labels-x-in-loop-x
-bounds-labels-x-in-loop-x c = omega (arith, c.requires.1.1.room)
-
-pub overflow_sub-to : goal.overflow_sub-to
-overflow_sub-to c = (c.requires.1.1.in_text c.loop-x.x (omega arith)).0
-
-pub alike-requires : goal.alike-requires
-alike-requires c =
-    let l = c.loop-x in
-    let k = c.span_length-wanted.ensures in
-    let a = c.args in
-    (omega (arith, c.if-wanted-eq0.false), sym c.if-to-from.true ∙ sym (length-slice _ _ a.site.now (c.requires.1.1.in_text l.x (omega arith)).1), k)
-
 pub returns-then-alike : goal.returns-then-alike
 returns-then-alike c =
     λ ls L.
     found_here _ _ _ ls L _ c.loop-x.x (omega (arith, c.if-to-from.true))
     (sym c.alike.ensures ∙ c.if-alike.true)
-
-pub overflow_add-x : goal.overflow_add-x
-overflow_add-x c = omega arith
-
-pub loop-x-smaller : goal.loop-x-smaller
-loop-x-smaller c = omega arith
 
 pub loop-x-preserved : goal.loop-x-preserved
 loop-x-preserved c =

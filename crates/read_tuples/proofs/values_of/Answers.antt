@@ -1,6 +1,6 @@
 -- `read_tuples::values_of` meets its contract. There are as many fields as numbers, so the tabs between them are found.
 use native.Mathlib.Omega.{arith}
-use Rattle.read_tuples.proofs.Naming.{values_none, values_1, values_2, values_3, tab_2, tab_3, tab_4}
+use Rattle.read_tuples.proofs.Naming.{values_1, values_2, values_3, tab_2, tab_3, tab_4}
 use mathlib.Core.List.{[]}
 use Rattle.read_tuples.proofs.values_of.Goals as goal
 
@@ -15,9 +15,6 @@ find-r-requires c = let p = c.requires in (omega (arith, tab_3 _ _ _ _ p.0 0 [] 
 
 pub overflow_add-r : goal.overflow_add-r
 overflow_add-r c = let p = c.requires in omega (arith, tab_4 _ _ _ _ p.0 0 [] _ c.find-t-in-Three.ensures _ _ _ c.in-Three.is _ c.find-r.ensures)
-
-pub returns-in-Unread : goal.returns-in-Unread
-returns-in-Unread c = λ ls L. values_none _ _ _ _ c.requires.0 _ ls c.in-Unread.is
 
 pub returns-in-One : goal.returns-in-One
 returns-in-One c = λ ls L. values_1 _ _ _ _ c.requires.0 _ ls _ _ c.in-One.is (c.value-u.ensures ls L)

@@ -1,46 +1,35 @@
-use Prim.Native.Nat.{◌≤◌}
-use mathlib.Core.Path.{◌≡◌}
+use Prim.Native.Nat.{ℕ, ◌+◌, ◌-◌, ◌^◌, ◌≤◌, ◌<◌}
+use mathlib.Core.List.{List}
+use mathlib.Core.Path.{◌≡◌, refl, ◌∙◌, ap}
 use native.Mathlib.Omega.{arith}
-use lib.ListN.{get_or}
+use lib.ListN.{length, length-take, length-drop}
+use Rattle.std.proofs.Common.{get_or, take, drop}
+use Rattle.std.proofs.lemmas.List.{get_or-drop, get_or-take}
+use Rattle.read_tuples.specs.Marks.{first_word}
 use Rattle.read_tuples.proofs.Rows.{power_le}
-use Rattle.read_tuples.proofs.Adding.{word_next, word_limit, word_none}
+use Rattle.read_tuples.proofs.Adding.{word_next}
 use Rattle.read_tuples.proofs.word_of.Goals as goal
-use Rattle.read_tuples.proofs.word_of.Goals.{After-power-p}
 
--- a relation has at most 4096 words
-words : (c : After-power-p) → c.power-p.result ≤ 262144
-words c =
-    let j = c.loop-j.j in
-    omega (arith, c.power-p.ensures, power_le c.args.n (get_or c.args.arity.now j 0) (omega arith) (c.requires.4 j (omega arith)))
+-- the arities that are gone through are those from lo up to i
+arity_at : (xs : List ℕ) (lo i k : ℕ) → k < length (take (i - lo) (drop lo xs)) → i ≤ length xs
+    → (lo + k < i) × (get_or (take (i - lo) (drop lo xs)) k 0 ≡ get_or xs (lo + k) 0)
+arity_at xs lo i k h l =
+    let m : k < i - lo = omega (arith, length-take {A = ℕ}, length-drop {A = ℕ}) in
+    (omega arith, get_or-take (i - lo) (drop lo xs) k 0 m ∙ get_or-drop lo xs k 0)
 
-pub loop-j-init : goal.loop-j-init
-loop-j-init c = (omega arith, omega arith, λ g from to. word_none _ _ _, omega arith)
+pub loop-k-init : goal.loop-k-init
+unfolding first_word
+loop-k-init c = (λ g from to. refl, omega arith)
 
-pub power-p-requires : goal.power-p-requires
-power-p-requires c = (omega arith, c.requires.4 c.loop-j.j (omega arith))
+pub pow-requires : goal.pow-requires
+pow-requires c =
+    let (b, e) = arity_at c.args.arity.now c.args.lo c.args.i c.loop-k.k-index (omega arith) (omega arith) in
+    omega (arith, power_le c.args.n _ c.requires.0 (c.requires.4 _ b), ap (λ (x : ℕ). c.args.n ^ x) e)
 
-pub overflow_add-sum : goal.overflow_add-sum
-overflow_add-sum c = omega (arith, words c)
-
-pub overflow_add-sum-in-loop-j : goal.overflow_add-sum-in-loop-j
-overflow_add-sum-in-loop-j c = omega (arith, words c)
-
-pub overflow_add-j : goal.overflow_add-j
-overflow_add-j c = omega arith
-
-pub loop-j-smaller : goal.loop-j-smaller
-loop-j-smaller c = omega arith
-
-pub loop-j-preserved : goal.loop-j-preserved
-loop-j-preserved c =
-    let l = c.loop-j in (
-      omega arith,
-      omega arith,
-      λ g from to. word_next _ _ _ l.j _ _ (omega arith) (l.invariant.2 g from to) c.power-p.ensures,
-      word_limit _ l.j _ _ (omega arith) l.invariant.3 (words c),
+pub loop-k-preserved : goal.loop-k-preserved
+loop-k-preserved c =
+    let (b, e) = arity_at c.args.arity.now c.args.lo c.args.i c.loop-k.k-index (omega arith) (omega arith) in
+    let p : c.pow.result ≡ c.args.n ^ get_or c.args.arity.now (c.args.lo + c.loop-k.k-index) 0 = c.pow.ensures ∙ ap (λ (x : ℕ). c.args.n ^ x) e in (
+      λ g from to. word_next _ _ _ _ _ _ _ (c.loop-k.invariant.0 g from to) p c.div_ceil-sum.ensures,
+      omega (arith, power_le c.args.n _ c.requires.0 (c.requires.4 _ b), p, c.div_ceil-sum.ensures),
     )
-
-pub returns : goal.returns
-returns c =
-    let e : c.loop-j.j ≡ c.args.i = omega arith in
-    (λ g from to. rw e at (c.loop-j.invariant.2 g from to), omega arith)

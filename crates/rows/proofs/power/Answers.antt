@@ -11,16 +11,16 @@ pub overflow_mul-r : goal.overflow_mul-r
 overflow_mul-r c =
     omega (
       arith,
-      pow_next c.args.n c.loop-i.i c.loop-i.r c.loop-i.invariant.1,
+      pow_next c.args.n c.loop-i._i c.loop-i.r c.loop-i.invariant.1,
       pow_below
-          c.args.n c.loop-i.i c.args.k (2 ^ 64) c.requires.0 c.loop-i-test.true
+          c.args.n c.loop-i._i c.args.k (2 ^ 64) c.requires.0 c.loop-i-test.true
           c.requires.1,
     )
 
 pub loop-i-preserved : goal.loop-i-preserved
-loop-i-preserved c = (omega arith, pow_next c.args.n c.loop-i.i c.loop-i.r c.loop-i.invariant.1)
+loop-i-preserved c = (omega arith, pow_next c.args.n c.loop-i._i c.loop-i.r c.loop-i.invariant.1)
 
 pub returns : goal.returns
 returns c =
-    let e : c.loop-i.i ≡ c.args.k = omega arith in
+    let e : c.loop-i._i ≡ c.args.k = omega arith in
     c.loop-i.invariant.1 ∙ ap (λ (x : ℕ). c.args.n ^ x) e

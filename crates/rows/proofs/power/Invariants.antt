@@ -4,7 +4,4 @@ use mathlib.Core.Path.{◌≡◌}
 use Rattle.rows.proofs.power.Given as goal
 
 abbrev pub invariant-loop-i : goal.invariant-loop-i
-invariant-loop-i l = (l.i ≤ l.k) × (l.r ≡ l.n ^ l.i)
-
-abbrev pub decreases-loop-i : goal.decreases-loop-i
-decreases-loop-i l = l.k - l.i
+invariant-loop-i l = (l._i ≤ l.k) × (l.r ≡ l.n ^ l._i)

@@ -7,6 +7,3 @@ use Rattle.rows.proofs.weights.Given as goal
 
 abbrev pub invariant-loop-i : goal.invariant-loop-i
 invariant-loop-i l = (l.i ≤ l.width) × (length l.w ≡ length l.initial.w) × (value_in l.w ≡ weight_of l.n (take l.i l.levels))
-
-abbrev pub decreases-loop-i : goal.decreases-loop-i
-decreases-loop-i l = l.width - l.i

@@ -15,12 +15,6 @@ returns-then-i-width c = mark_end _ _ _ _ (search rules) _ c.loop-i.invariant (i
 pub bounds-r-l : goal.bounds-r-l
 bounds-r-l c = omega (arith, c.loop-i.invariant.marks_length)
 
-pub overflow_add-i : goal.overflow_add-i
-overflow_add-i c = omega arith
-
-pub loop-i-smaller : goal.loop-i-smaller
-loop-i-smaller c = omega arith
-
 pub loop-i-preserved : goal.loop-i-preserved
 loop-i-preserved c =
     let w = c.wide-l in elim c.if-l-lt4.branch [

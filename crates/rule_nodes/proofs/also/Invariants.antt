@@ -1,10 +1,6 @@
 -- `also` meets its contract.
-use Prim.Native.Nat.{◌-◌}
 use Rattle.rule_nodes.proofs.Laws.{Marked}
 use Rattle.rule_nodes.proofs.also.Given as goal
 
 abbrev pub invariant-loop-i : goal.invariant-loop-i
 invariant-loop-i l = Marked l.initial.r.at l.r.at l.p.width l.p.levels l.i
-
-abbrev pub decreases-loop-i : goal.decreases-loop-i
-decreases-loop-i l = 4 - l.i

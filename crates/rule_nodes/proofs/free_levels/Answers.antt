@@ -5,20 +5,11 @@ use Rattle.rule_nodes.proofs.free_levels.Goals as goal
 pub loop-l-init : goal.loop-l-init
 loop-l-init c = list_start _
 
-pub bounds-m-l : goal.bounds-m-l
-bounds-m-l c = omega arith
-
 pub listed-r-requires : goal.listed-r-requires
 listed-r-requires c = omega (arith, list_width _ _ _ c.loop-l.invariant)
 
-pub overflow_add-l : goal.overflow_add-l
-overflow_add-l c = omega arith
-
-pub loop-l-smaller : goal.loop-l-smaller
-loop-l-smaller c = omega arith
-
 pub loop-l-preserved : goal.loop-l-preserved
-loop-l-preserved c = let l = c.loop-l in list_again _ _ _ l.l _ (omega arith) (rw c.is_own-own.ensures) c.listed-r.ensures l.invariant
+loop-l-preserved c = let l = c.loop-l in list_again _ _ _ l.l _ (omega arith) (rw c.is_own.ensures) c.listed-r.ensures l.invariant
 
 pub returns : goal.returns
 returns c = list_end _ _ _ (omega arith) c.loop-l.invariant

@@ -33,9 +33,6 @@ loop-i-init c = outer_start _ _ _ c.no_part-blank.ensures c.no_row-blank_row.ens
 pub row_at-row-requires : goal.row_at-row-requires
 row_at-row-requires c = (c.requires.0, omega (arith, c.loop-i-test.true, c.requires.1))
 
-pub overflow_add-i : goal.overflow_add-i
-overflow_add-i c = omega arith
-
 pub leaf_part-requires : goal.leaf_part-requires
 leaf_part-requires c = omega (arith, c.if-row-ge4.true)
 
@@ -47,9 +44,6 @@ bounds-stack-height c = omega (arith, leaf (goal.at.bounds-stack-height c).Then-
 
 pub overflow_add-height : goal.overflow_add-height
 overflow_add-height c = omega (arith, leaf (goal.at.overflow_add-height c).Then-row-ge4)
-
-pub loop-i-smaller-then-row-ge4 : goal.loop-i-smaller-then-row-ge4
-loop-i-smaller-then-row-ge4 c = omega arith
 
 pub loop-i-preserved-then-row-ge4 : goal.loop-i-preserved-then-row-ge4
 loop-i-preserved-then-row-ge4 c =
@@ -77,12 +71,6 @@ bounds-parts-placed c = omega (arith, space (goal.at.bounds-parts-placed c).In-l
 pub overflow_add-placed : goal.overflow_add-placed
 overflow_add-placed c = omega (arith, space (goal.at.overflow_add-placed c).In-loop-j (node (goal.at.overflow_add-placed c).Else-row-ge4))
 
-pub overflow_add-j : goal.overflow_add-j
-overflow_add-j c = omega (arith, c.loop-j-test.true, c.loop-i.invariant.tall)
-
-pub loop-j-smaller : goal.loop-j-smaller
-loop-j-smaller c = omega arith
-
 pub loop-j-preserved : goal.loop-j-preserved
 loop-j-preserved c =
     inner_again _ _ _ _ _ _ _ _ _ c.loop-j.invariant _ _ c.loop-j-test.true
@@ -108,9 +96,6 @@ bounds-stack-base c = omega (arith, c.wide.ensures.0, (node (goal.at.bounds-stac
 
 pub overflow_add-height-in-loop-i : goal.overflow_add-height-in-loop-i
 overflow_add-height-in-loop-i c = omega (arith, c.wide.ensures.0, (node (goal.at.overflow_add-height-in-loop-i c).Else-row-ge4).3)
-
-pub loop-i-smaller : goal.loop-i-smaller
-loop-i-smaller c = omega (arith, c.loop-i-test.true)
 
 pub loop-i-preserved : goal.loop-i-preserved
 loop-i-preserved c =

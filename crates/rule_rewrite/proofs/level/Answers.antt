@@ -24,12 +24,6 @@ overflow_cast-result c = omega (arith, c.requires)
 pub returns-then-same_span : goal.returns-then-same_span
 returns-then-same_span c = sym (c.loop-i.invariant.1 ∙ level_yes _ _ _ _ _ _ c.loop-i-test.true (sym c.same_span.ensures ∙ c.if-same_span.true))
 
-pub overflow_add-i : goal.overflow_add-i
-overflow_add-i c = omega arith
-
-pub loop-i-smaller : goal.loop-i-smaller
-loop-i-smaller c = omega arith
-
 pub loop-i-preserved : goal.loop-i-preserved
 loop-i-preserved c = (omega arith, c.loop-i.invariant.1 ∙ level_no _ _ _ _ _ _ c.loop-i-test.true (sym c.same_span.ensures ∙ c.if-same_span.false))
 

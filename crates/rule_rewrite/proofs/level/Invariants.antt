@@ -10,6 +10,3 @@ use Rattle.rule_rewrite.proofs.level.Given as goal
 
 abbrev pub invariant-loop-i : goal.invariant-loop-i
 invariant-loop-i l = (l.i ≤ l.sc.n) × (level_of (names l.s l.sc) (slice l.a l.e l.s) ≡ level_from l.i (position (same (slice l.a l.e l.s)) (spans l.s l.sc.from l.sc.to (l.sc.n - l.i) l.i)))
-
-abbrev pub decreases-loop-i : goal.decreases-loop-i
-decreases-loop-i l = l.sc.n - l.i

@@ -22,17 +22,8 @@ bounds-sig-i-in-loop-i c = omega (arith, c.loop-i.invariant.1, c.requires.chosen
 pub bounds-sig-i-in-loop-i-2 : goal.bounds-sig-i-in-loop-i-2
 bounds-sig-i-in-loop-i-2 c = omega (arith, c.loop-i.invariant.1, c.requires.chosen_bound.0)
 
-pub overflow_add-i : goal.overflow_add-i
-overflow_add-i c = omega (arith, c.loop-i.invariant.1, c.requires.chosen_bound.0)
-
 pub totality_by_kind-u-requires : goal.totality_by_kind-u-requires
 totality_by_kind-u-requires c = let h = c.loop-i.invariant in (left_space _ _ _ _ h.2 (omega (arith, h.1)), left_nodes _ _ _ _ h.2 (omega (arith, h.1)), omega (arith, h.1, c.requires.chosen_bound.0), h.3)
-
-pub overflow_add-i-in-loop-i : goal.overflow_add-i-in-loop-i
-overflow_add-i-in-loop-i c = omega (arith, c.loop-i.invariant.1, c.requires.chosen_bound.0)
-
-pub loop-i-smaller : goal.loop-i-smaller
-loop-i-smaller c = omega arith
 
 pub loop-i-preserved : goal.loop-i-preserved
 loop-i-preserved c = let h = c.loop-i.invariant in let r = c.totality_by_kind-u in (omega arith, h.1, left_again _ _ _ _ h.2 (omega (arith, h.1)) _ r.ensures, r.auto.rows ∙ h.3)

@@ -1,6 +1,6 @@
 -- `totalities` meets its contract.
 use mathlib.Core.Path.{◌≡◌}
-use Prim.Native.Nat.{◌+◌, ◌-◌, ◌≤◌}
+use Prim.Native.Nat.{◌+◌, ◌≤◌}
 use lib.ListN.{length}
 use Rattle.rule_nodes.specs.Postorder.{rows_from}
 use Rattle.rule_rewrite.proofs.Root.{Left}
@@ -8,6 +8,3 @@ use Rattle.rule_rewrite.proofs.totalities.Given as goal
 
 abbrev pub invariant-loop-i : goal.invariant-loop-i
 invariant-loop-i l = (l.i ≤ l.end) × (l.end ≡ l.sig.rels + l.sig.chosen) × Left (rows_from l.initial.rows l.len l.nodes) (rows_from l.rows l.u.len l.u.nodes) l.sig l.i × (length l.rows ≡ 512)
-
-abbrev pub decreases-loop-i : goal.decreases-loop-i
-decreases-loop-i l = l.end - l.i

@@ -24,4 +24,4 @@ returns-then-rule_holds c =
     (f.auto.state ∙ length-take-le _ _ q.fits.3)
 
 pub returns : goal.returns
-returns c = let h = c.rule_holds in λ x F G n. lent_false x F _ _ _ _ _ _ G n _ (h.ensures x F _ G n).told c.if-rule_holds.false
+returns c = let h = c.rule_holds in λ x F G n. rw c.at.ensures (lent_false x F _ _ _ _ _ _ G n _ (h.ensures x F _ G n).told c.if-rule_holds.false)

@@ -14,6 +14,3 @@ abbrev pub invariant-loop-i : goal.invariant-loop-i
 invariant-loop-i l = (l.i ≤ l.count) × (l.n ≤ l.at + l.i) × (length l.state ≡ length l.initial.state) × (length l.steps ≡ length l.initial.steps)
     × ((p : Problem) (G : Good p) → ReadyToFollow p l.table (length l.initial.state)
     → follow p (out (bit l.initial.state) l.initial.steps l.at) (marks_after p l.k) ≡ follow p (out (bit l.state) l.steps l.n) (marks_from (every_number p.source.question) (l.count - l.i) l.i l.m))
-
-abbrev pub decreases-loop-i : goal.decreases-loop-i
-decreases-loop-i l = l.count - l.i

@@ -24,12 +24,6 @@ returns-else-prove_round c =
     let l = c.loop-k in let q = c.prove_round in λ x F B e. let I = l.invariant.3 x F B e in let v = rounds_are x F _ _ B _ c.rounds-last.ensures.2 in let h : l.k < values x = omega arith in
     holds_not x F _ _ B _ _ _ h I.1 (q.ensures x F _ (building_as B l.invariant.1) h I.0).0 c.if-prove_round.false
 
-pub overflow_add-k : goal.overflow_add-k
-overflow_add-k c = omega arith
-
-pub loop-k-smaller : goal.loop-k-smaller
-loop-k-smaller c = omega arith
-
 pub loop-k-preserved : goal.loop-k-preserved
 loop-k-preserved c =
     let l = c.loop-k in let q = c.prove_round in let t = c.end_round in (

@@ -12,6 +12,3 @@ use Rattle.step_build.proofs.rounds_hold.Given as goal
 abbrev pub invariant-loop-k : goal.invariant-loop-k
 invariant-loop-k l = (l.k ≤ l.last) × (length l.left ≡ length l.initial.left) × (length l.none ≡ 1)
     × ((c : Case) (F : List Tuple) → Building c F l.table (length l.initial.left) → bit l.initial.left ≡ round_at c F 0 → (bit l.left ≡ round_at c F l.k) × (rule_is_true c F ≡ all (round_holds c F) (from l.k (values c - l.k))))
-
-abbrev pub decreases-loop-k : goal.decreases-loop-k
-decreases-loop-k l = l.last - l.k

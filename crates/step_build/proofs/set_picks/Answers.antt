@@ -20,9 +20,6 @@ words_in-word-requires c = (words_few _ _ c.requires _ c.relation_line-line.ensu
 pub overflow_add-word : goal.overflow_add-word
 overflow_add-word c = omega (arith, c.words_in-word.ensures, (words_few _ _ c.requires _ c.relation_line-line.ensures).3)
 
-pub loop-r-smaller : goal.loop-r-smaller
-loop-r-smaller c = omega arith
-
 pub loop-r-preserved : goal.loop-r-preserved
 loop-r-preserved c =
     let k = c.loop-r in let w = words_few _ _ c.requires _ c.relation_line-line.ensures in (

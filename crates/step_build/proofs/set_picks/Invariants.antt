@@ -15,6 +15,3 @@ invariant-loop-r l = (l.r ≤ relations_in l.table) × (l.k ≤ l.r * 2 ^ 32) ×
     × (set_relations p (rows_in p l.picks) (out (bit l.initial.state) l.initial.steps 0) 0 (length p.relations)
     ≡ set_relations p (rows_in p l.picks) (out (bit l.state) l.steps l.k) l.r (length p.relations - l.r)))
     × (relations_in l.table ≤ 18) × (length l.table ≡ table_length)
-
-abbrev pub decreases-loop-r : goal.decreases-loop-r
-decreases-loop-r l = relations_in l.table - l.r

@@ -1,4 +1,4 @@
-use Prim.Native.Nat.{◌+◌, ◌-◌, ◌*◌, ◌^◌, ◌≤◌, ◌<◌}
+use Prim.Native.Nat.{◌+◌, ◌*◌, ◌^◌, ◌≤◌, ◌<◌}
 use mathlib.Core.Path.{◌≡◌}
 use mathlib.Core.List.{List}
 use lib.ListN.{length}
@@ -12,6 +12,3 @@ use Rattle.step_build.proofs.write_rounds.Given as goal
 abbrev pub invariant-loop-k : goal.invariant-loop-k
 invariant-loop-k l = (l.k ≤ l.last) × (l.n ≤ l.at + l.k * 2 ^ 39) × (length l.state ≡ length l.initial.state) × (length l.steps ≡ length l.initial.steps)
     × ((c : Case) (F : List Tuple) → Building c F l.table (length l.initial.state) → l.last < values c → bit l.initial.state ≡ round_at c F 0 → RoundsTo c F (out (bit l.initial.state) l.initial.steps l.at) (out (bit l.state) l.steps l.n) l.k)
-
-abbrev pub decreases-loop-k : goal.decreases-loop-k
-decreases-loop-k l = l.last - l.k

@@ -41,17 +41,9 @@ returns-then-k-count c = (
   λ _. ends_good c.args.count c.args.ends.now c.loop-i.k c.loop-i.i (omega arith) c.loop-i.invariant.2 (omega arith),
 )
 
-pub returns-then-i-eq0 : goal.returns-then-i-eq0
-returns-then-i-eq0 c = (
-  told_fault _ 1 (c.loop-i.i - 1) (λ e. omega (arith, e)) (omega arith)
-      (c.loop-i.invariant.1 ∙ ends_none c.args.count c.args.ends.now c.loop-i.k c.loop-i.i (omega arith)
-      ∙ ends_short c.args.count c.loop-i.k c.loop-i.i (λ e. omega arith)),
-  λ e. absurd (omega (arith, e)),
-)
-
 pub returns : goal.returns
 returns c = (
-  told_fault _ c.loop-i.i (c.loop-i.i - 1) (λ e. omega arith) refl
+  told_fault _ c.max.result (c.loop-i.i - 1) (λ e. omega arith) (omega arith)
       (c.loop-i.invariant.1 ∙ ends_none c.args.count c.args.ends.now c.loop-i.k c.loop-i.i (omega arith)
       ∙ ends_short c.args.count c.loop-i.k c.loop-i.i (λ e. omega arith)),
   λ e. absurd (omega arith),

@@ -1,10 +1,8 @@
 -- `step_layers::is_action` meets its contract.
-use mathlib.Core.Path.{sym, ◌∙◌}
-use Rattle.step_layers.specs.TestLaws.{no_action, an_action}
+use mathlib.Core.Path.{ap, ◌∙◌}
+use mathlib.Core.Bool.{not}
+use Rattle.step_layers.specs.TestLaws.{action_or_not}
 use Rattle.step_layers.proofs.is_action.Goals as goal
 
-pub returns-then-is_nothing : goal.returns-then-is_nothing
-returns-then-is_nothing c = λ p is. no_action p _ _ (c.action_at-a.ensures.1 p is) (sym c.is_nothing.ensures ∙ c.if-is_nothing.true)
-
 pub returns : goal.returns
-returns c = λ p is. an_action p _ _ (c.action_at-a.ensures.1 p is) (sym c.is_nothing.ensures ∙ c.if-is_nothing.false)
+returns c = λ p is. ap not c.is_nothing.ensures ∙ action_or_not p _ _ (c.action_at.ensures.1 p is)

@@ -1,5 +1,5 @@
 use Prim.Native.Nat.{ℕ}
-use mathlib.Core.Path.{refl, sym, subst, ◌∙◌}
+use mathlib.Core.Path.{◌≡◌, refl, sym, subst, ◌∙◌}
 use native.Mathlib.Omega.{arith}
 use native.Mathlib.Numerals.{add-one}
 use lib.ListN.{length, get_or, drop}
@@ -57,15 +57,15 @@ loop-i-preserved c =
     )
 
 pub returns-then-test : goal.returns-then-test
-returns-then-test c = (
+returns-then-test c = let all : c.loop-i.i ≡ length c.args.ends.now = omega arith in (
   c.loop-i.invariant.1,
-  λ p G plain is h. end_layers_done p _ c.args.steps.now c.args.ends.now (bit c.loop-i.state) c.loop-i.i c.loop-i.k
-      (c.loop-i.invariant.4 p G plain is h) (omega arith) (sym c.test.ensures ∙ c.if-test.true),
+  λ p G plain is h. rw all at (end_layers_done p _ c.args.steps.now c.args.ends.now (bit c.loop-i.state) c.loop-i.i c.loop-i.k
+      (c.loop-i.invariant.4 p G plain is h) (omega arith) (sym c.test.ensures ∙ c.if-test.true)),
 )
 
 pub returns : goal.returns
-returns c = (
+returns c = let all : c.loop-i.i ≡ length c.args.ends.now = omega arith in (
   c.loop-i.invariant.1,
-  λ p G plain is h. end_layers_no_goal p _ c.args.steps.now c.args.ends.now (bit c.loop-i.state) c.loop-i.i c.loop-i.k
-      (c.loop-i.invariant.4 p G plain is h) (omega arith) (sym c.test.ensures ∙ c.if-test.false),
+  λ p G plain is h. rw all at (end_layers_no_goal p _ c.args.steps.now c.args.ends.now (bit c.loop-i.state) c.loop-i.i c.loop-i.k
+      (c.loop-i.invariant.4 p G plain is h) (omega arith) (sym c.test.ensures ∙ c.if-test.false)),
 )

@@ -30,12 +30,6 @@ overflow_add-word c =
           c.loop-r-test.true,
     )
 
-pub overflow_add-r : goal.overflow_add-r
-overflow_add-r c = omega arith
-
-pub loop-r-smaller : goal.loop-r-smaller
-loop-r-smaller c = omega arith
-
 pub loop-r-preserved : goal.loop-r-preserved
 loop-r-preserved c =
     let copy-relation = c.copy_relation in let relation-line = c.relation_line-line in let if1 = c.loop-r-test in (

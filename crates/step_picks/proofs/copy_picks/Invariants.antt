@@ -12,6 +12,3 @@ abbrev pub invariant-loop-r : goal.invariant-loop-r
 invariant-loop-r l = (l.r ≤ relations_in l.table) × (length l.picks ≡ length l.initial.picks) × (l.word + count_from l.table l.r (relations_in l.table - l.r) ≡ picks_in l.table)
     × (sets l.initial.picks 0 (words_from (bit l.state) l.table 0 (relations_in l.table)) ≡ sets l.picks l.word (words_from (bit l.state) l.table l.r (relations_in l.table - l.r)))
     × (relations_in l.table ≤ 18) × (length l.table ≡ table_length)
-
-abbrev pub decreases-loop-r : goal.decreases-loop-r
-decreases-loop-r l = relations_in l.table - l.r

@@ -28,9 +28,6 @@ overflow_mul-j-in-loop-j c = omega (arith, left (goal.at.overflow_mul-j-in-loop-
 pub overflow_sub-tuples : goal.overflow_sub-tuples
 overflow_sub-tuples c = omega (arith, left (goal.at.overflow_sub-tuples c).In-loop-j)
 
-pub loop-j-smaller : goal.loop-j-smaller
-loop-j-smaller c = omega arith
-
 pub loop-j-preserved : goal.loop-j-preserved
 loop-j-preserved c =
     let k = c.loop-j in (

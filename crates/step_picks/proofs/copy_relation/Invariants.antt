@@ -13,6 +13,3 @@ abbrev pub invariant-loop-j : goal.invariant-loop-j
 invariant-loop-j l = (l.j ≤ l.count) × (length l.picks ≡ length l.initial.picks)
     × (sets l.initial.picks l.word (line_words (bit l.state) l.line) ≡ sets l.picks (l.word + l.j) (words_past (bit l.state) l.line l.j (l.count - l.j)))
     × (l.tuples ≡ l.line.nots - l.line.tuples) × (l.count ≡ words_in l.line)
-
-abbrev pub decreases-loop-j : goal.decreases-loop-j
-decreases-loop-j l = l.count - l.j

@@ -8,6 +8,3 @@ use Rattle.step_picks.proofs.crowded.Given as goal
 
 abbrev pub invariant-loop-x : goal.invariant-loop-x
 invariant-loop-x l = (l.x ≤ l.n) × (is_crowded (λ (i : ℕ). bit l.picks (l.start + i)) l.n l.a l.b ≡ any (row_two l.picks l.start l.n l.a l.b) (from l.x (l.n - l.x)))
-
-abbrev pub decreases-loop-x : goal.decreases-loop-x
-decreases-loop-x l = l.n - l.x

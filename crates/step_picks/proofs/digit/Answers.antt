@@ -1,10 +1,12 @@
-use mathlib.Core.Path.{sym, ap, ◌∙◌}
-use mathlib.Core.Bool.{Bool}
+use mathlib.Core.Path.{◌≡◌, refl, ap, ◌∙◌}
+use mathlib.Core.Bool.{Bool, true, false}
+use mir.Val.{bool_byte}
 use Rattle.bits.specs.Table.{num}
 use Rattle.step_picks.proofs.digit.Goals as goal
 
-pub returns-then-test : goal.returns-then-test
-returns-then-test c = ap (λ (b : Bool). num b) (sym c.if-test.true ∙ c.test.ensures)
+as_number : (b : Bool) → bool_byte b ≡ num b
+as_number true = refl
+as_number false = refl
 
 pub returns : goal.returns
-returns c = ap (λ (b : Bool). num b) (sym c.if-test.false ∙ c.test.ensures)
+returns c = c.from.ensures ∙ as_number c.test.result ∙ ap num c.test.ensures

@@ -12,5 +12,5 @@ among-requires-then-among c = (c.requires.0, c.requires.1.seconds.inside)
 pub returns-then-among : goal.returns-then-among
 returns-then-among c = inside_yes _ _ _ (sym c.among.ensures ∙ c.if-among.true) c.among-then-among.ensures
 
-pub returns : goal.returns
-returns c = inside_no _ _ (sym c.among.ensures ∙ c.if-among.false)
+pub returns-else-among : goal.returns-else-among
+returns-else-among c = c.if-among.false ∙ inside_no _ _ (sym c.among.ensures ∙ c.if-among.false)

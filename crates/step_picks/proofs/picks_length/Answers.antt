@@ -18,12 +18,6 @@ words_in-sum-requires c = (words_few _ _ c.requires _ c.relation_line-line.ensur
 pub overflow_add-sum : goal.overflow_add-sum
 overflow_add-sum c = omega (arith, c.words_in-sum.ensures, (words_few _ _ c.requires _ c.relation_line-line.ensures).3)
 
-pub overflow_add-r : goal.overflow_add-r
-overflow_add-r c = omega arith
-
-pub loop-r-smaller : goal.loop-r-smaller
-loop-r-smaller c = omega arith
-
 pub loop-r-preserved : goal.loop-r-preserved
 loop-r-preserved c = (
   omega arith,

@@ -9,6 +9,3 @@ use Rattle.step_picks.proofs.picks_length.Given as goal
 abbrev pub invariant-loop-r : goal.invariant-loop-r
 invariant-loop-r l = (l.r ≤ relations_in l.table) × (l.sum ≤ l.r * 2 ^ 27) × (l.sum + count_from l.table l.r (relations_in l.table - l.r) ≡ picks_in l.table) × (relations_in l.table ≤ 18)
     × (length l.table ≡ table_length)
-
-abbrev pub decreases-loop-r : goal.decreases-loop-r
-decreases-loop-r l = relations_in l.table - l.r

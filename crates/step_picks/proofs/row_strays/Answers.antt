@@ -15,12 +15,6 @@ stray-requires c = (c.requires.0, c.requires.1)
 pub returns-then-stray : goal.returns-then-stray
 returns-then-stray c = sym (c.loop-y.invariant.1 ∙ any_yes _ _ _ (omega arith) (sym c.stray.ensures ∙ c.if-stray.true))
 
-pub overflow_add-y : goal.overflow_add-y
-overflow_add-y c = omega arith
-
-pub loop-y-smaller : goal.loop-y-smaller
-loop-y-smaller c = omega arith
-
 pub loop-y-preserved : goal.loop-y-preserved
 loop-y-preserved c = (omega arith, c.loop-y.invariant.1 ∙ any_no _ _ _ (omega arith) (sym c.stray.ensures ∙ c.if-stray.false))
 

@@ -7,6 +7,3 @@ use Rattle.step_picks.proofs.row_strays.Given as goal
 
 abbrev pub invariant-loop-y : goal.invariant-loop-y
 invariant-loop-y l = (l.y ≤ l.n) × (any (strays_at l.picks l.start l.table l.line l.x) (below l.n) ≡ any (strays_at l.picks l.start l.table l.line l.x) (from l.y (l.n - l.y)))
-
-abbrev pub decreases-loop-y : goal.decreases-loop-y
-decreases-loop-y l = l.n - l.y

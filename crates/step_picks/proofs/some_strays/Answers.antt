@@ -25,12 +25,6 @@ row_strays-requires c = (c.requires.0, c.requires.1, omega (arith, row_few c.loo
 pub returns-then-row_strays : goal.returns-then-row_strays
 returns-then-row_strays c = let a = c.args in sym (c.loop-x.invariant.1 ∙ any_yes _ _ _ (omega arith) (row_strays_lem _ _ _ _ a.line _ _ true c.row_strays.ensures c.if-row_strays.true))
 
-pub overflow_add-x : goal.overflow_add-x
-overflow_add-x c = omega arith
-
-pub loop-x-smaller : goal.loop-x-smaller
-loop-x-smaller c = omega arith
-
 pub loop-x-preserved : goal.loop-x-preserved
 loop-x-preserved c = let a = c.args in (omega arith, c.loop-x.invariant.1 ∙ any_no _ _ _ (omega arith) (row_strays_lem _ _ _ _ a.line _ _ false c.row_strays.ensures c.if-row_strays.false))
 

@@ -11,6 +11,3 @@ use Rattle.step_picks.proofs.some_strays.Given as goal
 abbrev pub invariant-loop-x : goal.invariant-loop-x
 invariant-loop-x l = (l.x ≤ l.n) × (is_stray (λ (i : ℕ). bit l.picks (l.start + i)) l.n (firsts_in l.table l.line) (seconds_in l.table l.line)
     ≡ any (row_strays l.picks l.start l.n l.table l.line) (from l.x (l.n - l.x)))
-
-abbrev pub decreases-loop-x : goal.decreases-loop-x
-decreases-loop-x l = l.n - l.x

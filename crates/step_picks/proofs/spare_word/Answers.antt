@@ -2,7 +2,8 @@ use mathlib.Core.Path.{sym, ◌∙◌}
 use native.Mathlib.Omega.{arith}
 use borrow.Author.Rules.{rules}
 use Rattle.step_picks.specs.WordLaws.{words_few}
-use Rattle.step_picks.specs.Spare.{spare_found, spare_start, spare_yes, spare_no, spare_end}
+use Rattle.step_picks.specs.Tests.{told}
+use Rattle.step_picks.specs.Spare.{spare_start, spare_yes, spare_no, spare_end}
 use Rattle.step_picks.proofs.spare_word.Goals as goal
 
 pub loop-r-init : goal.loop-r-init
@@ -18,7 +19,7 @@ pub overflow_add-result : goal.overflow_add-result
 overflow_add-result c = omega (arith, c.tuples_in.ensures, (words_few _ _ c.requires _ c.relation_line-line.ensures).2)
 
 pub returns-then-has_spare : goal.returns-then-has_spare
-unfolding spare_found
+unfolding told
 returns-then-has_spare c =
     λ p is. sym (c.loop-r.invariant.2 p is ∙ spare_yes p _
     (λ j. omega (arith, c.type_inv.picks j)) _ _ (omega (arith, is.relations)) _ is _
@@ -29,12 +30,6 @@ words_in-word-requires c = (words_few _ _ c.requires _ c.relation_line-line.ensu
 
 pub overflow_add-word : goal.overflow_add-word
 overflow_add-word c = omega (arith, c.words_in-word.ensures, (words_few _ _ c.requires _ c.relation_line-line.ensures).3)
-
-pub overflow_add-r : goal.overflow_add-r
-overflow_add-r c = omega arith
-
-pub loop-r-smaller : goal.loop-r-smaller
-loop-r-smaller c = omega arith
 
 pub loop-r-preserved : goal.loop-r-preserved
 loop-r-preserved c =
@@ -49,5 +44,5 @@ loop-r-preserved c =
     )
 
 pub returns : goal.returns
-unfolding spare_found
+unfolding told
 returns c = λ p is. sym (c.loop-r.invariant.2 p is ∙ spare_end p _ _ _ (omega (arith, is.relations)))

@@ -9,5 +9,5 @@ inside-requires c = c.requires
 pub returns-then-test : goal.returns-then-test
 returns-then-test c = stray_yes _ _ _ (sym c.test.ensures ∙ c.if-test.true) c.inside.ensures
 
-pub returns : goal.returns
-returns c = inside_no _ _ (sym c.test.ensures ∙ c.if-test.false)
+pub returns-else-test : goal.returns-else-test
+returns-else-test c = c.if-test.false ∙ inside_no _ _ (sym c.test.ensures ∙ c.if-test.false)

@@ -39,12 +39,6 @@ overflow_add-word c = let relation-line = c.relation_line-line in omega (arith, 
 pub overflow_add-i : goal.overflow_add-i
 overflow_add-i c = omega (arith, c.chosen-i.ensures, chosen_le c.relation_line-line.result.kind)
 
-pub overflow_add-r : goal.overflow_add-r
-overflow_add-r c = omega arith
-
-pub loop-r-smaller : goal.loop-r-smaller
-loop-r-smaller c = omega arith
-
 pub loop-r-preserved : goal.loop-r-preserved
 loop-r-preserved c =
     let breaks-kind = c.breaks_kind in let relation-line = c.relation_line-line in (

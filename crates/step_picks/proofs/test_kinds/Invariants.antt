@@ -12,6 +12,3 @@ abbrev pub invariant-loop-r : goal.invariant-loop-r
 invariant-loop-r l = (l.r ≤ relations_in l.table) × (l.i ≤ l.r) × (l.word ≤ l.r * 2 ^ 27) × ((p : Problem) → Is p l.table → (l.word ≡ word_start p l.r)
     × (broken_from p (rows_in p l.picks) 0 (length p.relations) 0 ≡ broken_from p (rows_in p l.picks) l.r (length p.relations - l.r) l.i))
     × (relations_in l.table ≤ 18) × (length l.table ≡ table_length)
-
-abbrev pub decreases-loop-r : goal.decreases-loop-r
-decreases-loop-r l = relations_in l.table - l.r

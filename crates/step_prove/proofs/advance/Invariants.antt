@@ -10,6 +10,3 @@ use Rattle.step_prove.proofs.advance.Given as goal
 abbrev pub invariant-loop-i : goal.invariant-loop-i
 invariant-loop-i l = (l.i ≤ l.width) × (length l.digits ≡ length l.initial.digits) × Within l.n l.digits × Rest l.width l.digits ×
     ((row : ℕ) → Digits l.n l.width row l.initial.digits → Carried l.n l.width row l.i l.digits)
-
-abbrev pub decreases-loop-i : goal.decreases-loop-i
-decreases-loop-i l = l.i

@@ -1,5 +1,5 @@
 use borrow.Author.Rules.{rules}
-use mathlib.Core.Path.{sym, ◌∙◌}
+use mathlib.Core.Path.{◌≡◌, sym, ◌∙◌}
 use native.Mathlib.Omega.{arith}
 use Rattle.step_prove.specs.TryLaws.{first_start, first_yes, first_no, first_end}
 use Rattle.step_prove.proofs.first_part.Goals as goal
@@ -17,4 +17,4 @@ pub loop-i-preserved : goal.loop-i-preserved
 loop-i-preserved c = (omega arith, c.loop-i.invariant.1 ∙ first_no _ _ _ (omega arith) (sym c.part_holds.ensures ∙ c.if-part_holds.false))
 
 pub returns : goal.returns
-returns c = first_end _ _ _ (omega arith) ∙ sym c.loop-i.invariant.1
+returns c = let e : c.args.tries ≡ c.loop-i.i = omega arith in e ∙ first_end _ _ _ (omega arith) ∙ sym c.loop-i.invariant.1

@@ -11,6 +11,3 @@ abbrev pub invariant-loop-i : goal.invariant-loop-i
 invariant-loop-i l = (l.i ≤ l.tries) × (first_from
     (λ (x : ℕ). bit l.state (part_at l.table (value_in l.env) (l.first + x))) 0 l.tries ≡ first_from
     (λ (x : ℕ). bit l.state (part_at l.table (value_in l.env) (l.first + x))) l.i (l.tries - l.i))
-
-abbrev pub decreases-loop-i : goal.decreases-loop-i
-decreases-loop-i l = l.tries - l.i

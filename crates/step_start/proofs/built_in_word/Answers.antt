@@ -7,7 +7,7 @@ pub returns-then-r-eq0 : goal.returns-then-r-eq0
 returns-then-r-eq0 c = λ y l. word_eq _ _ _ _ y c.requires.1 l (omega arith) (c.single.ensures y (omega arith))
 
 pub returns-then-r-eq1 : goal.returns-then-r-eq1
-returns-then-r-eq1 c = λ y l. word_lt _ _ _ _ y c.requires.1 l _ _ (omega arith) (omega arith) c.least.ensures c.mask.ensures
+returns-then-r-eq1 c = λ y l. word_lt _ _ _ _ y c.requires.1 l _ _ (omega arith) (omega arith) c.min.ensures c.mask.ensures
 
 pub returns-then-r-eq2 : goal.returns-then-r-eq2
 returns-then-r-eq2 c = λ y l. word_suc _ _ _ _ y c.requires.1 l (omega arith) (c.single-then-r-eq2.ensures y (omega arith))

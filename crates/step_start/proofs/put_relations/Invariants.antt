@@ -1,4 +1,4 @@
-use Prim.Native.Nat.{◌-◌, ◌≤◌}
+use Prim.Native.Nat.{◌≤◌}
 use mathlib.Core.Path.{◌≡◌}
 use lib.ListN.{length}
 use Rattle.bits.specs.Table.{bit}
@@ -7,6 +7,3 @@ use Rattle.step_start.proofs.put_relations.Given as goal
 
 abbrev pub invariant-loop-r : goal.invariant-loop-r
 invariant-loop-r l = (l.r ≤ l.count) × (length l.state ≡ length l.initial.state) × (l.first ≡ first_in l.table l.r) × (Room l.table (length l.initial.state) → bit l.state ≡ relations_put l.facts l.table l.r (bit l.initial.state))
-
-abbrev pub decreases-loop-r : goal.decreases-loop-r
-decreases-loop-r l = l.count - l.r

@@ -1,5 +1,5 @@
 -- `step_truth::fill_chains` meets its contract.
-use Prim.Native.Nat.{ℕ, zero, ◌-◌, ◌*◌, ◌/◌, ◌≤◌}
+use Prim.Native.Nat.{ℕ, zero, ◌*◌}
 use Rattle.bits.specs.Table.{bit}
 use Rattle.definitions.specs.Problem.Atoms.{Problem}
 use Rattle.definitions.specs.Sheet.Relations.{Tuple}
@@ -14,9 +14,6 @@ use mathlib.Core.List.{List}
 use mathlib.Core.Path.{◌≡◌}
 use Rattle.step_truth.proofs.fill_chains.Given as goal
 
-abbrev pub invariant-loop-j : goal.invariant-loop-j
-invariant-loop-j l = (l.j ≤ l.width) × (length l.state ≡ length l.initial.state) × (length l.digits ≡ 4) × Within l.n l.digits × Rest l.v.width l.digits × Digits l.n l.v.width (l.j / l.n) l.digits × (l.j ≡ l.j / l.n * l.n)
-    × ((p : Problem) (G : Good p) (F : List Tuple) (node : ℕ) → Filling p l.table (length l.initial.state) node l.v l.width → Knows p F (rows_to p G F node zero) (bit l.initial.state) → Knowing p G F (rows_to p G F node l.j) (bit l.initial.state) (bit l.state))
-
-abbrev pub decreases-loop-j : goal.decreases-loop-j
-decreases-loop-j l = l.width - l.j
+abbrev pub invariant-loop-row : goal.invariant-loop-row
+invariant-loop-row l = (length l.state ≡ length l.initial.state) × (length l.digits ≡ 4) × Within l.n l.digits × Rest l.v.width l.digits × Digits l.n l.v.width l.row l.digits
+    × ((p : Problem) (G : Good p) (F : List Tuple) (node : ℕ) → Filling p l.fn.table (length l.initial.state) node l.v l.fn.width → Knows p F (rows_to p G F node zero) (bit l.initial.state) → Knowing p G F (rows_to p G F node (l.row * l.n)) (bit l.initial.state) (bit l.state))

@@ -1,5 +1,5 @@
 -- `step_truth::fill_exists` meets its contract.
-use Prim.Native.Nat.{ℕ, zero, ◌-◌, ◌≤◌}
+use Prim.Native.Nat.{ℕ, zero, ◌≤◌}
 use Rattle.bits.specs.Table.{bit}
 use Rattle.definitions.specs.Problem.Atoms.{Problem}
 use Rattle.definitions.specs.Sheet.Relations.{Tuple}
@@ -17,6 +17,3 @@ use Rattle.step_truth.proofs.fill_exists.Given as goal
 abbrev pub invariant-loop-row : goal.invariant-loop-row
 invariant-loop-row l = (l.row ≤ l.width) × (length l.state ≡ length l.initial.state) × (length l.digits ≡ 4) × Within l.n l.digits × Rest l.v.width l.digits × Digits l.n l.v.width l.row l.digits
     × ((p : Problem) (G : Good p) (F : List Tuple) (node : ℕ) → Filling p l.table (length l.initial.state) node l.v l.width → Knows p F (rows_to p G F node zero) (bit l.initial.state) → Knowing p G F (rows_to p G F node l.row) (bit l.initial.state) (bit l.state))
-
-abbrev pub decreases-loop-row : goal.decreases-loop-row
-decreases-loop-row l = l.width - l.row

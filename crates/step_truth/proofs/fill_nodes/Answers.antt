@@ -12,7 +12,7 @@ pub loop-v-init : goal.loop-v-init
 loop-v-init c = (c.requires.1, omega arith, atoms_few _ _ _ c.requires.0 c.node_line-last.ensures, refl, λ p G F R h e K. (ap (λ (x : NodeLine). x.atoms) c.node_line-last.ensures ∙ e, (K, λ i o. refl)))
 
 pub fill_node-requires : goal.fill_node-requires
-fill_node-requires c = (c.requires.0, omega (arith, c.requires.2), omega (arith, c.gap-width.ensures))
+fill_node-requires c = (c.requires.0, omega (arith, c.requires.2), omega (arith, c.saturating_sub-width.ensures))
 
 pub loop-v-preserved : goal.loop-v-preserved
 loop-v-preserved c =
@@ -23,7 +23,7 @@ loop-v-preserved c =
       c.fill_node.auto.state ∙ l.invariant.3,
       λ p G F R h e K.
           let I = l.invariant.4 p G F R h e K in
-          let M = node_turn p G F _ l.v _ _ _ _ _ c.node_line-line.ensures (omega arith) (omega arith) (record { is = R.is; room = omega (arith, R.room, l.invariant.3) }) I.0 c.gap-width.ensures c.fill_node.ensures I.1.0 in (M.0, (M.1.0, λ i o. M.1.1 i o ∙ I.1.1 i o)),
+          let M = node_turn p G F _ l.v _ _ _ _ _ c.node_line-line.ensures (omega arith) (omega arith) (record { is = R.is; room = omega (arith, R.room, l.invariant.3) }) I.0 c.saturating_sub-width.ensures c.fill_node.ensures I.1.0 in (M.0, (M.1.0, λ i o. M.1.1 i o ∙ I.1.1 i o)),
     )
 
 pub shape_of-state : goal.shape_of-state

@@ -17,6 +17,3 @@ abbrev pub invariant-loop-v : goal.invariant-loop-v
 invariant-loop-v l = (l.first ≤ l.v) × (l.v ≤ l.past) × (l.end ≤ 2 ^ 32) × (length l.state ≡ length l.initial.state)
     × ((p : Problem) (G : Good p) (F : List Tuple) → Fillable p l.table (length l.initial.state) → l.past ≤ length p.node_list → (node_line l.table l.past).atoms ≡ node_start p l.past → Knows p F (nodes_from p G F l.past) (bit l.initial.state)
     → (l.end ≡ node_start p l.v) × Knowing p G F (nodes_from p G F l.v) (bit l.initial.state) (bit l.state))
-
-abbrev pub decreases-loop-v : goal.decreases-loop-v
-decreases-loop-v l = l.v

@@ -1,5 +1,5 @@
 -- `step_truth::fill_parts` meets its contract.
-use Prim.Native.Nat.{ℕ, zero, ◌-◌, ◌*◌, ◌/◌, ◌≤◌}
+use Prim.Native.Nat.{ℕ, zero, ◌*◌}
 use Rattle.bits.specs.Table.{bit}
 use Rattle.definitions.specs.Problem.Atoms.{Problem}
 use Rattle.definitions.specs.Sheet.Relations.{Tuple}
@@ -12,9 +12,6 @@ use mathlib.Core.List.{List}
 use mathlib.Core.Path.{◌≡◌}
 use Rattle.step_truth.proofs.fill_parts.Given as goal
 
-abbrev pub invariant-loop-row : goal.invariant-loop-row
-invariant-loop-row l = (l.row ≤ l.width) × (length l.state ≡ length l.initial.state) × (l.row ≡ l.row / l.n * l.n)
-    × ((p : Problem) (G : Good p) (F : List Tuple) (node : ℕ) → Filling p l.table (length l.initial.state) node l.v l.width → Knows p F (rows_to p G F node zero) (bit l.initial.state) → Knowing p G F (rows_to p G F node l.row) (bit l.initial.state) (bit l.state))
-
-abbrev pub decreases-loop-row : goal.decreases-loop-row
-decreases-loop-row l = l.width - l.row
+abbrev pub invariant-loop-turn : goal.invariant-loop-turn
+invariant-loop-turn l = (length l.state ≡ length l.initial.state)
+    × ((p : Problem) (G : Good p) (F : List Tuple) (node : ℕ) → Filling p l.fn.table (length l.initial.state) node l.v l.fn.width → Knows p F (rows_to p G F node zero) (bit l.initial.state) → Knowing p G F (rows_to p G F node (l.turn * l.n)) (bit l.initial.state) (bit l.state))

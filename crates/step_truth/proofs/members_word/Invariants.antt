@@ -10,6 +10,3 @@ use Rattle.step_truth.proofs.members_word.Given as goal
 
 abbrev pub invariant-loop-i : goal.invariant-loop-i
 invariant-loop-i l = (l.i ≤ l.count) × ((k : ℕ) → k < 64 → (digit l.w k || any (λ (j : ℕ). eqb k (get_or l.table (l.range + j) 0)) (from l.i (l.count - l.i))) ≡ any (λ (j : ℕ). eqb k (get_or l.table (l.range + j) 0)) (from zero l.count))
-
-abbrev pub decreases-loop-i : goal.decreases-loop-i
-decreases-loop-i l = l.count - l.i

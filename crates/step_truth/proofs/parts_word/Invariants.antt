@@ -12,6 +12,3 @@ use Rattle.step_truth.proofs.parts_word.Given as goal
 abbrev pub invariant-loop-i : goal.invariant-loop-i
 invariant-loop-i l = (l.i ≤ l.many) × ((x : ℕ) → x < l.lanes → (digit l.acc x || any (λ (j : ℕ). turned l.flip (bit l.state (part_at l.table (with_value (value_in l.env) l.level x) (l.first + j)))) (from l.i (l.many - l.i)))
     ≡ any (λ (j : ℕ). turned l.flip (bit l.state (part_at l.table (with_value (value_in l.env) l.level x) (l.first + j)))) (from zero l.many))
-
-abbrev pub decreases-loop-i : goal.decreases-loop-i
-decreases-loop-i l = l.many - l.i

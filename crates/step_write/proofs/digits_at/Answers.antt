@@ -14,9 +14,6 @@ loop-i-init c = (omega arith, refl, c.requires.4, c.requires.5, left_start _ _ _
 pub bounds-digits-i : goal.bounds-digits-i
 bounds-digits-i c = let l = c.loop-i in omega (arith, l.invariant.1, c.requires.3)
 
-pub loop-i-smaller : goal.loop-i-smaller
-loop-i-smaller c = omega arith
-
 pub loop-i-preserved : goal.loop-i-preserved
 loop-i-preserved c =
     let l = c.loop-i in let a = c.args in let q = c.requires in (

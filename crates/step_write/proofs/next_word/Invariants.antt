@@ -1,10 +1,7 @@
-use Prim.Native.Nat.{ℕ, ◌-◌, ◌≤◌, ◌<◌}
+use Prim.Native.Nat.{ℕ, ◌≤◌, ◌<◌}
 use mathlib.Core.Path.{◌≡◌}
 use lib.ListN.{get_or}
 use Rattle.step_write.proofs.next_word.Given as goal
 
 abbrev pub invariant-loop-k : goal.invariant-loop-k
-invariant-loop-k l = (l.j ≤ l.k) × (l.k ≤ l.past) × ((m : ℕ) → l.j ≤ m → m < l.k → get_or l.words m 0 ≡ 0)
-
-abbrev pub decreases-loop-k : goal.decreases-loop-k
-decreases-loop-k l = l.past - l.k
+invariant-loop-k l = (m : ℕ) → l.fn.j ≤ m → m < l.k → get_or l.words m 0 ≡ 0

@@ -1,4 +1,4 @@
-use Prim.Native.Nat.{ℕ, ◌+◌, ◌-◌, ◌*◌, ◌≤◌}
+use Prim.Native.Nat.{ℕ, ◌+◌, ◌*◌, ◌≤◌}
 use mathlib.Core.Path.{◌≡◌}
 use mathlib.Core.List.{List, map}
 use lib.ListN.{length, take}
@@ -14,6 +14,3 @@ abbrev pub invariant-loop-i : goal.invariant-loop-i
 invariant-loop-i l = (l.i ≤ l.v.count) × (l.k ≤ l.at + l.i) × (length l.steps ≡ length l.initial.steps)
     × ((p : Problem) (G : Good p) (F : List Tuple) (node width row : ℕ) → Reading p G F l.table node l.v width (bit l.state) → l.v.kind ≡ 0 → l.j ≡ row * size_in l.table → l.action ≡ l.v.acts + row * l.v.count → l.j + size_in l.table ≤ width
     → Wrote l.initial.steps l.at (row_numbers p F node (map (λ (z : ℕ). l.j + z) (take l.i (range_in l.table l.v)))) l.steps l.k)
-
-abbrev pub decreases-loop-i : goal.decreases-loop-i
-decreases-loop-i l = l.v.count - l.i

@@ -1,7 +1,0 @@
--- `call_page::page_text` meets its contract: the words and the list that it lends are enough, and clear. Assumes nothing.
-use native.Mathlib.Omega.{arith}
-use Rattle.read_sheets.proofs.Loops.{zeros_clear}
-use Rattle.call_page.proofs.page_text.Goals as goal
-
-pub page_text_with-requires : goal.page_text_with-requires
-page_text_with-requires c = record { facts_room = (c.is_small.ensures c.if-is_small.true, zeros_clear 512); room_for = λ few. omega arith }

@@ -1,9 +1,0 @@
--- `read_input` meets its contract. The room that is left falls, since a read that brings nothing ends it.
-use Rattle.std.proofs.Common.{◌≤◌, ◌-◌, length}
-use Rattle.desk_main.proofs.read_input.Given as goal
-
-abbrev pub invariant-loop-at : goal.invariant-loop-at
-invariant-loop-at l = l.at ≤ length l.input
-
-abbrev pub decreases-loop-at : goal.decreases-loop-at
-decreases-loop-at l = length l.input - l.at

@@ -1,0 +1,2 @@
+-- What is said of closures that slices are lent to.
+pub mod Lends

@@ -1,5 +1,0 @@
--- `print_bytes::decimal` meets its contract, by recursion on the number: the digits before the last, then the last.
-use Rattle.print_bytes.proofs.+decimal.Given as goal
-
-abbrev pub decreases-decimal : goal.decreases-decimal
-decreases-decimal l = l.k

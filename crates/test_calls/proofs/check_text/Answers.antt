@@ -1,8 +1,0 @@
--- `test_calls::check_text` runs safely.
-use mathlib.Core.Path.{sym}
-use native.Mathlib.Omega.{arith}
-use lib.Seq.{length-take-le}
-use Rattle.test_calls.proofs.check_text.Goals as goal
-
-pub slice_bounds-check_text_into-end : goal.slice_bounds-check_text_into-end
-slice_bounds-check_text_into-end c = sym (length-take-le _ _ (omega arith))

@@ -1,8 +1,0 @@
--- `test_calls::read_plan` runs safely.
-use mathlib.Core.Path.{sym}
-use native.Mathlib.Omega.{arith}
-use lib.Seq.{length-take-le}
-use Rattle.test_calls.proofs.read_plan.Goals as goal
-
-pub slice_bounds-read_plan_into-end : goal.slice_bounds-read_plan_into-end
-slice_bounds-read_plan_into-end c = sym (length-take-le _ _ (omega arith))

@@ -1,9 +1,0 @@
--- `test_calls::show_hex` runs safely.
-use Prim.Native.Nat.{◌-◌, ◌≤◌}
-use Rattle.test_calls.proofs.show_hex.Given as goal
-
-abbrev pub invariant-loop-i : goal.invariant-loop-i
-invariant-loop-i l = l.i ≤ 8
-
-abbrev pub decreases-loop-i : goal.decreases-loop-i
-decreases-loop-i l = 8 - l.i

@@ -1,9 +1,0 @@
--- `test_digest::block` runs safely.
-use Prim.Native.Nat.{◌-◌, ◌≤◌}
-use Rattle.test_digest.proofs.block.Given as goal
-
-abbrev pub invariant-loop-i : goal.invariant-loop-i
-invariant-loop-i l = l.i ≤ 64
-
-abbrev pub decreases-loop-i : goal.decreases-loop-i
-decreases-loop-i l = 64 - l.i
