@@ -23,7 +23,7 @@ use Rattle.problem_table.specs.NeedLaws.{get_d_map}
 use Rattle.problem_layout.specs.declared.Relations.{Relations}
 use Rattle.problem_layout.specs.Laid.{Inputs}
 use Rattle.read_sheets.specs.declared.Opened.{Opened}
-use Rattle.read_sheets.specs.Opening.{Holds, CaseRead}
+use Rattle.read_sheets.specs.Opening.{Holds}
 use Rattle.refusal.specs.declared.Refusal.{Refusal}
 use Rattle.refusal.specs.declared.Cause.TheVariants.{HasEvery, ShortBuffer}
 use Rattle.refusal.specs.Numbers.{number_of}

@@ -27,7 +27,7 @@ use Rattle.problem_layout.specs.declared.Relations.{Relations}
 use Rattle.problem_layout.specs.Laid.{Inputs}
 use Rattle.call_monotone.specs.Wants.{kind_at, kinds_are}
 use Rattle.read_sheets.specs.declared.Opened.{Opened}
-use Rattle.read_sheets.specs.Opening.{Holds, CaseRead}
+use Rattle.read_sheets.specs.Opening.{Holds}
 use Rattle.refusal.specs.declared.Refusal.{Refusal}
 use Rattle.refusal.specs.declared.Cause.TheVariants.{NoPicks, NotMonotone}
 use Rattle.refusal.specs.Numbers.{number_of}

@@ -6,7 +6,6 @@ use mathlib.Core.List.{List, ◌++◌}
 use Rattle.std.proofs.Math.ListN.{length, drop}
 use Rattle.definitions.specs.Limits.{CaseLimits}
 use Rattle.definitions.specs.Refusal.{Result, refused, accepted, ◌>>=◌}
-use Rattle.definitions.specs.Problem.Truth.{Case}
 use Rattle.definitions.specs.Problem.Atoms.{Problem, problem_of, atoms, state_words}
 use Rattle.definitions.specs.Problem.Strips.{run, picks_of}
 use Rattle.definitions.specs.Reply.Outcome

@@ -14,7 +14,7 @@ use Rattle.laws.specs.Asked
 use Rattle.laws.specs.Alone
 use Rattle.laws.specs.Reader.{Accepted as Accepts, gives_if, case_fits}
 use Rattle.read_sheets.specs.declared.Opened.{Opened}
-use Rattle.read_sheets.specs.Opening.{Holds, CaseRead}
+use Rattle.read_sheets.specs.Opening.{Holds}
 use Rattle.refusal.specs.declared.Refusal.{Refusal}
 use Rattle.refusal.specs.declared.Cause.TheVariants.{HasEvery}
 use Rattle.refusal.specs.Numbers.{number_of}

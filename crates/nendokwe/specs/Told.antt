@@ -7,7 +7,7 @@ use Rattle.std.proofs.Math.Option.{Option, none, some}
 use Rattle.std.proofs.Math.Seq.{length-slice}
 use Rattle.definitions.specs.Refusal.{Result, refused, accepted, ◌>>=◌}
 use Rattle.definitions.specs.Problem.Actions.{Action, action_kind, action_subject, action_row, action_choice}
-use Rattle.definitions.specs.Sheet.Sheets.{Question, read_question}
+use Rattle.definitions.specs.Sheet.Sheets.{read_question}
 use Rattle.definitions.specs.Reply.Outcome.{Sizes, span_of, rule_part, reply_number, refusal_place, told}
 use Rattle.read_question.specs.declared.Asked.{Asked as Read}
 use Rattle.read_question.specs.Drafts.{QuestionRead}
