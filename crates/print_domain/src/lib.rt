@@ -31,6 +31,17 @@ pub struct Env {
 
 // ---- predicates
 
+// The word of a relation's predicate of a kind.
+fn word_of(kind: usize, r: usize) -> Word
+    ensures { result ≡ record { kind = kind; which = r; shape = 0 } }
+{
+    Word {
+        kind,
+        which: r,
+        shape: 0,
+    }
+}
+
 // The lines of a relation's predicates.
 fn relation_lines(
     out: &mut [u8],
@@ -45,59 +56,13 @@ fn relation_lines(
     ensures { Emits (relation_lines question.now names.now r arity kind) out.old at out.new result }
 {
     let places = print_words::parameters(arity);
-    let one = print_words::line(
-        out,
-        at,
-        question,
-        names,
-        Word {
-            kind: 0,
-            which: r,
-            shape: 0,
-        },
-        places,
-    );
-    let two = print_words::line(
-        out,
-        one,
-        question,
-        names,
-        Word {
-            kind: 1,
-            which: r,
-            shape: 0,
-        },
-        places,
-    );
+    let one = print_words::line(out, at, question, names, word_of(0, r), places);
+    let two = print_words::line(out, one, question, names, word_of(1, r), places);
     let only = print_words::parameters(1);
     let is = print_instance::is_function(kind);
-    let three = print_instance::line_if(
-        out,
-        two,
-        question,
-        names,
-        Word {
-            kind: 2,
-            which: r,
-            shape: 0,
-        },
-        only,
-        is,
-    );
+    let three = print_instance::line_if(out, two, question, names, word_of(2, r), only, is);
     let too = print_instance::is_injective(kind);
-    print_instance::line_if(
-        out,
-        three,
-        question,
-        names,
-        Word {
-            kind: 3,
-            which: r,
-            shape: 0,
-        },
-        only,
-        too,
-    )
+    print_instance::line_if(out, three, question, names, word_of(3, r), only, too)
 }
 
 // This loop, and those of `set_schemas`, `kids` and `or_schemas`, differ in the call that they make for each number. One loop that took the call
