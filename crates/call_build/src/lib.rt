@@ -46,7 +46,8 @@ fn build_picks(
     if let Some(j) = step_picks::spare_word(table, picks) {
         return Err(Cause::Repeated.at(j));
     }
-    step_build::start_and_build(state, steps, table, facts, m.atoms, &picks[..held])
+    let count = step_build::start_and_build(state, steps, table, facts, m.atoms, &picks[..held])?;
+    Ok(count)
 }
 
 // Steps of a case that was opened, from picks as a text: they are read into the lent words, which are enough and come in cleared.

@@ -19,7 +19,7 @@ ghost use Rattle.problem_of_case.specs.Grounds.{Read};
 ghost use Rattle.problem_of_case.specs.declared.Sized.{Sized};
 ghost use Rattle.step_start.specs.Rows.{atoms_in};
 ghost use Rattle.step_build.specs.Starts.{Prepared};
-ghost use Rattle.open_case.specs.Fronts.{ReadyFront};
+ghost use Rattle.open_case.specs.Fronts.{Filed, ReadyFront};
 ghost use Rattle.open_case.specs.Replies.{result_of};
 ghost use Rattle.call_build_layers.specs.Layers.{GivesLayers};
 ghost use Rattle.call_build_layers.specs.Builds.{Answers, FromWords, FromText};
@@ -131,6 +131,38 @@ fn build_listed(
     build_picks(f, upper, facts, table, words, state, steps, ends)
 }
 
+// Layers from picks as a text, of a case that was opened. The room for the picks stands here: a function that hands a refusal on by `?`
+// clears all its room on its way in, the long one too.
+fn build_opened(
+    question: &[u8],
+    site: &[u8],
+    f: Front,
+    labels: &[usize],
+    facts: &[u64],
+    table: &[usize],
+    picks: &[u8],
+    state: &mut [u64],
+    steps: &mut [u32],
+    ends: &mut [u32],
+) -> Reply
+    requires { Filed usual question.now site.now (Ok f) labels.now facts.now table.now }
+    ensures { Answers usual question.now site.now (as_text picks.now) state.old steps.old ends.old result
+        state.new steps.new ends.new }
+{
+    let o = f.o;
+    // the room is made here: open_room lends beside two slices at the most, and these are three
+    if o.n <= open_case::SMALL_SIZE {
+        let mut few = [0u64; open_case::FEW_PICKS];
+        return build_listed(
+            question, site, f, labels, facts, table, picks, &mut few, state, steps, ends,
+        );
+    }
+    let mut words = [0u64; open_case::PICKS];
+    build_listed(
+        question, site, f, labels, facts, table, picks, &mut words, state, steps, ends,
+    )
+}
+
 // Layers from picks as a text; the words for the facts are lent.
 fn build_text_in(
     question: &[u8],
@@ -148,17 +180,8 @@ fn build_text_in(
     let mut labels = [0usize; read_sheets::LABELS];
     let mut table = [0usize; problem_table::TABLE];
     let f = open_case::open_usual(question, site, &mut labels, facts, &mut table)?;
-    let o = f.o;
-    // the room is made here: open_room lends beside two slices at the most, and these are three
-    if o.n <= open_case::SMALL_SIZE {
-        let mut few = [0u64; open_case::FEW_PICKS];
-        return build_listed(
-            question, site, f, &labels, facts, &table, picks, &mut few, state, steps, ends,
-        );
-    }
-    let mut words = [0u64; open_case::PICKS];
-    build_listed(
-        question, site, f, &labels, facts, &table, picks, &mut words, state, steps, ends,
+    build_opened(
+        question, site, f, &labels, facts, &table, picks, state, steps, ends,
     )
 }
 

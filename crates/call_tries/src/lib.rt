@@ -29,22 +29,20 @@ pub struct CallReply {
     pub place: usize,
 }
 
-// The record with the reply to its list.
+// The reply to its list goes into the record. (It goes to its two fields: to write the record as a whole would write the bytes between them.)
 #[tactic(auto, unfolding(crate::specs::Recorded::answered, definitions::specs::Reply::Outcome::reply_number, definitions::specs::Reply::Outcome::reply_place))]
-fn answered(t: Try, r: Reply) -> Try
-    ensures { result ≡ answered t (result_of r) }
+fn answer(t: &mut Try, r: Reply)
+    ensures { t.new ≡ answered t.old (result_of r) }
 {
     match r {
-        Ok(count) => Try {
-            number: 0,
-            place: count as u64,
-            ..t
-        },
-        Err(e) => Try {
-            number: e.cause.number(),
-            place: e.place as u64,
-            ..t
-        },
+        Ok(count) => {
+            t.number = 0;
+            t.place = count as u64;
+        }
+        Err(e) => {
+            t.number = e.cause.number();
+            t.place = e.place as u64;
+        }
     }
 }
 
@@ -54,10 +52,8 @@ fn try_each(table: &[usize], state: &[u64], words: usize, steps: &[u32], tries: 
     ensures { (p : Problem) → Serves p table.now state.now words → tries.new ≡ map (answer p steps.now) tries.old }
 {
     for t in tries.iter_mut() {
-        *t = answered(
-            *t,
-            open_tries::try_list(table, state, words, steps, t.first, t.length),
-        );
+        let reply = open_tries::try_list(table, state, words, steps, t.first, t.length);
+        answer(t, reply);
     }
 }
 

@@ -33,7 +33,8 @@ fn of_case(question: &[u8], o: Opened) -> Result<Window, Refusal>
     if m.every {
         return Err(Cause::HasEvery.at(0));
     }
-    Ok(problem_window::of_tables(n, ranges, t))
+    let w = problem_window::of_tables(n, ranges, t);
+    Ok(w)
 }
 
 // The window of a question and a site, with the lent words for the site's facts.

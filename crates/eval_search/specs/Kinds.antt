@@ -48,11 +48,11 @@ module _ (c : Case) (table : List ℕ) (s : Sought c table) (cells : ℕ) (e : S
     told_is : told k ≡ first_of_other_kind c (numbered (cells_of c) m)
     told_is = q ∙ kinds_same (problem_of c) t ∙ kinds_are c s.accepted_case (numbered (cells_of c) m) (numbered_picks c s.accepted_case m) t (picked (problem_of c) table s.is (good c s.accepted_case) cells counted m t f)
 
-    kinds_kept : k ≡ None → true ≡ are_of_kinds c (numbered (cells_of c) m)
+    pub kinds_kept : k ≡ None → true ≡ are_of_kinds c (numbered (cells_of c) m)
     unfolding told
     kinds_kept z = sym (kinds_told c (numbered (cells_of c) m) (sym told_is ∙ ap told z))
 
-    kinds_broken : (i : ℕ) → k ≡ Some i → false ≡ are_of_kinds c (numbered (cells_of c) m)
+    pub kinds_broken : (i : ℕ) → k ≡ Some i → false ≡ are_of_kinds c (numbered (cells_of c) m)
     unfolding told
     kinds_broken i z = sym (by_test (are_of_kinds c (numbered (cells_of c) m)) (kinds_hold c (numbered (cells_of c) m)))
       where

@@ -154,7 +154,10 @@ fn keeps_kinds(table: &[usize], cells: usize, m: u64) -> bool
 {
     let mut words = [0u64; PICK_WORDS];
     number_picks(table, &mut words, cells, m);
-    step_picks::test_kinds(table, &words).is_none()
+    match step_picks::test_kinds(table, &words) {
+        None => true,
+        Some(_) => false,
+    }
 }
 
 // In which of sixty-four runs the rule may hold.

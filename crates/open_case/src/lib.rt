@@ -105,9 +105,13 @@ pub fn open_filed(
     requires table_len { (length table.old ≡ table_length) × Most table.old 0 }
     ensures { Filed («Limits_of» most limits) question.now site.now result labels.new facts.new table.new }
 {
-    let o = read_sheets::read_filed(question, site, most, labels, facts)?;
-    let m = problem_of_case::ground_case(question, o, limits, table);
-    Ok(Front { o, m })
+    match read_sheets::read_filed(question, site, most, labels, facts) {
+        Err(e) => Err(e),
+        Ok(o) => {
+            let m = problem_of_case::ground_case(question, o, limits, table);
+            Ok(Front { o, m })
+        }
+    }
 }
 
 // The limits that all calls but the desk have.

@@ -139,7 +139,7 @@ module _ (question site : List ℕ) (f : Front) (facts table : List ℕ) (its : 
             unfolding every_of
             alone = its.2.holds.every ∙ no_every question f f.o.sig.every a
 
-            all_pass : ready_for_pddl usual question site third ≡ accepted (record { case = its.0; labels = filed.0; problem = problem_of its.0; third = t })
+            pub all_pass : ready_for_pddl usual question site third ≡ accepted (record { case = its.0; labels = filed.0; problem = problem_of its.0; third = t })
             unfolding ready_for_pddl without_every refuse_if is_some
             all_pass = Order.ready usual question site third no_types without_every nothing _ filed.1 t (e _) untyped (problem_of its.0) ground_is (rw alone refl) (Order.untested (problem_of its.0))
 

@@ -1,7 +1,6 @@
 -- A text printed into a table of bytes from a place on, and what is left to print of a text. Assumes nothing.
-use Rattle.std.specs.Prelude.{ℕ, suc, ◌+◌, ◌-◌, ◌≤◌, ◌≡◌, refl, List, [], ◌∷◌, ◌++◌, length, take, drop, set}
-use borrow.Rule.Slice.PartMut.{put_mid}
-use Rattle.std.proofs.Common.{drop-drop, sym, ap, subst, ◌∙◌, append_assoc, add-zero, arith, length-append}
+use Rattle.std.specs.Prelude.{ℕ, suc, ◌+◌, ◌≤◌, ◌≡◌, refl, List, [], ◌∷◌, ◌++◌, length, take, drop, set}
+use Rattle.std.proofs.Common.{sym, ap, subst, ◌∙◌, append_assoc, add-zero, arith, length-append}
 use Rattle.std.proofs.lemmas.List.Edits.{sets, sets-eq}
 use Rattle.std.proofs.Math.Seq.{length-sets}
 
@@ -22,15 +21,6 @@ prints_byte old at b = record { place = refl; table = refl }
 pub print_is : (old : List ℕ) (at : ℕ) (text : List ℕ) → at + length text ≤ length old → print old at text ≡ take at old ++ (text ++ drop (at + length text) old)
 unfolding print
 print_is old at text h = sets-eq text old at h ∙ append_assoc (take at old) text (drop (at + length text) old)
-
--- a text copied to its place
-pub prints_part : (text old new : List ℕ) (at : ℕ) → at + length text ≤ length old → new ≡ text → Prints text old at (put_mid at (at + length text - at) old new) (at + length text)
-prints_part text old new at h e =
-    let n : at + length text - at ≡ length text = omega arith in
-    record {
-      place = refl;
-      table = rw (e, n, drop-drop (length text) at old) (sym (print_is old at text h));
-    }
 
 pub print_length : (old : List ℕ) (at : ℕ) (text : List ℕ) → length (print old at text) ≡ length old
 unfolding print

@@ -24,8 +24,10 @@ pub fn text(out: &mut [u8], at: usize, s: &[u8]) -> usize
     requires { at + length s.now ≤ length out.old }
     ensures { Prints s.now out.old at out.new result }
 {
-    let next = at + s.len();
-    out[at..next].copy_from_slice(s);
+    let mut next = at;
+    for b in s {
+        next = byte(out, next, *b);
+    }
     next
 }
 

@@ -82,17 +82,15 @@ pub fn relations_of(g: Signature) -> Relations
     }
 }
 
-// Whether a problem of so many is within the limits.
+// Whether a problem of so many is within the limits: the refusal by size, which has a number, as a cause.
 pub fn within(t: Tally, limits: Limits) -> Result<(), Refusal>
     ensures { Within t limits result }
 {
-    if limits.atoms < t.atoms || limits.actions < t.actions {
-        return Err(Cause::TooLarge.at(0));
+    match problem_sizes::refusal(t, limits) {
+        0 => Ok(()),
+        11 => Err(Cause::TooLarge.at(0)),
+        _ => Err(Cause::HasEvery.at(0)),
     }
-    if t.every && (8 < t.tuples || limits.steps < t.bound) {
-        return Err(Cause::HasEvery.at(0));
-    }
-    Ok(())
 }
 
 // How many atoms and actions there are, and the bound.

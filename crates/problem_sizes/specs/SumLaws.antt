@@ -63,21 +63,21 @@ module _ (n : ℕ) (counts : List ℕ) (t : Nodes) where
   unfolding node_sum act_sum
   nodes_first = record { visited = refl; atoms_are = refl; actions_are = refl }
 
-  nodes_suc : (v atoms actions r w m : ℕ) → r ≡ n ^ (get_or t.rows v no_node).width
+  nodes_suc : (v nodes atoms actions r w m : ℕ) → r ≡ n ^ (get_or t.rows v no_node).width
       → w ≡ node_width n r (get_or t.rows v no_node).kind → m ≡ choices_at counts t v
-      → NodesSummed n counts t v v atoms actions → NodesSummed n counts t (suc v) (suc v) (atoms + w) (actions + r * m)
+      → NodesSummed n counts t v nodes atoms actions → NodesSummed n counts t (suc v) (nodes + 1) (atoms + w) (actions + r * m)
   unfolding node_sum act_sum
-  nodes_suc v atoms actions r w m e ew em s = record {
-    visited = refl;
+  nodes_suc v nodes atoms actions r w m e ew em s = record {
+    visited = ap (λ (k : ℕ). k + 1) s.visited ∙ add-one v;
     atoms_are = ap₂ ◌+◌ s.atoms_are (ew ∙ ap (λ (x : ℕ). node_width n x (get_or t.rows v no_node).kind) e);
     actions_are = ap₂ ◌+◌ s.actions_are (ap₂ ◌*◌ e em);
   }
 
-  pub nodes_next : (v atoms actions r w m : ℕ) → r ≡ n ^ (get_or t.rows v no_node).width
+  pub nodes_next : (v nodes atoms actions r w m : ℕ) → r ≡ n ^ (get_or t.rows v no_node).width
       → w ≡ node_width n r (get_or t.rows v no_node).kind → m ≡ choices_at counts t v
-      → NodesSummed n counts t v v atoms actions → NodesSummed n counts t (v + 1) (v + 1) (atoms + w) (actions + r * m)
-  nodes_next v atoms actions r w m e ew em s =
-      subst (λ (j : ℕ). NodesSummed n counts t j j (atoms + w) (actions + r * m)) (sym (add-one v)) (nodes_suc v atoms actions r w m e ew em s)
+      → NodesSummed n counts t v nodes atoms actions → NodesSummed n counts t (v + 1) (nodes + 1) (atoms + w) (actions + r * m)
+  nodes_next v nodes atoms actions r w m e ew em s =
+      subst (λ (j : ℕ). NodesSummed n counts t j (nodes + 1) (atoms + w) (actions + r * m)) (sym (add-one v)) (nodes_suc v nodes atoms actions r w m e ew em s)
 
 -- ---- the sums are those of the walk
 sum_next : {A : Type 0} (f : A → ℕ) (d : A) (r : ℕ) (ks : List A) → r < length ks → sum (map f (take (suc r) ks)) ≡ sum (map f (take r ks)) + f (get_or ks r d)

@@ -59,9 +59,10 @@ fn of_relations(n: usize, ranges: Ranges, g: Relations) -> Before
     Before { atoms, sets, picks }
 }
 
-// What the nodes have.
+// What the nodes have, and how many were visited.
 #[derive(Clone, Copy)]
 struct Walked {
+    nodes: usize,
     atoms: usize,
     actions: usize,
 }
@@ -69,18 +70,24 @@ struct Walked {
 // The one walk: every node once, in preorder.
 fn of_nodes(n: usize, ranges: Ranges, t: rule_nodes::Nodes) -> Walked
     requires { (0 < n) × (n ≤ 64) × Fits t × RangesFit n ranges }
-    ensures { NodesSummed n ranges.count t t.count t.count result.atoms result.actions }
+    ensures { NodesSummed n ranges.count t t.count result.nodes result.atoms result.actions }
 {
     let mut atoms: usize = 0;
     let mut actions: usize = 0;
+    let mut nodes: usize = 0;
     for row in &t.rows[..t.count] {
         let kind = rule_nodes::wide(row.kind);
         let rows = rows::power(n, rule_nodes::wide(row.width));
         atoms = atoms + problem_layout::node_width(n, rows, kind);
         let count = ranges.count[rule_nodes::wide(row.sort)];
         actions = actions + rows * problem_layout::choices(count, kind, rule_nodes::wide(row.many));
+        nodes += 1;
     }
-    Walked { atoms, actions }
+    Walked {
+        nodes,
+        atoms,
+        actions,
+    }
 }
 
 // How many tuples the relation of an `every` line has; 0 where there is none.
@@ -120,7 +127,7 @@ pub fn of_tables(n: usize, ranges: Ranges, g: Relations, t: rule_nodes::Nodes) -
     let elements = n;
     Tally {
         elements,
-        nodes: t.count,
+        nodes: w.nodes,
         every,
         tuples,
         atoms,

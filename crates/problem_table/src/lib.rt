@@ -246,7 +246,9 @@ pub fn copy(dst: &mut [u64], src: &[u64], k: usize)
     requires { (k ≤ length dst.old) × (k ≤ length src.now) }
     ensures { (dst.new ≡ written («take_of» k src.now) dst.old) × (0 < k → Words src.now) }
 {
-    dst[..k].copy_from_slice(&src[..k]);
+    for i in 0..k {
+        dst[i] = src[i];
+    }
 }
 
 // Whether the atom of a part holds at the values of levels.

@@ -28,11 +28,11 @@ module _ (count wanted m : ℕ) where
   unfolding sized told
   sized_other h = rw (ne_eqb count wanted h) refl
 
-  sized_large : count ≡ wanted → 2 ^ 32 ≤ m → told None ≡ sized count wanted m
+  pub sized_large : count ≡ wanted → 2 ^ 32 ≤ m → told None ≡ sized count wanted m
   unfolding sized told
   sized_large h l = rw (eq-eqb count wanted h, le-ltb m (2 ^ 32) l) refl
 
-  sized_there : count ≡ wanted → m < 2 ^ 32 → told (Some m) ≡ sized count wanted m
+  pub sized_there : count ≡ wanted → m < 2 ^ 32 → told (Some m) ≡ sized count wanted m
   unfolding sized told
   sized_there h l = rw (eq-eqb count wanted h, lt-ltb m (2 ^ 32) l) refl
 

@@ -49,11 +49,11 @@ module _ (s : List ℕ) (a e n : ℕ) (k : e ≤ length s) where
       unfolding option
       object_bad y = none_of n ∙ sym (its ∙ rw (sym q, eq-eqb b 111 z, num_bad (number (slice (a + 1) e s)) v y r) refl)
 
-      object_is : (x : ℕ) → v ≡ Some x → object_of n x ≡ object_from n (folded (slice a e s))
+      pub object_is : (x : ℕ) → v ≡ Some x → object_of n x ≡ object_from n (folded (slice a e s))
       unfolding option
       object_is x y = sym (its ∙ rw (sym q, eq-eqb b 111 z, num_is (number (slice (a + 1) e s)) v x y r) refl)
 
-      object_large : (x : ℕ) → v ≡ Some x → n ≤ x → object_of n n ≡ object_from n (folded (slice a e s))
+      pub object_large : (x : ℕ) → v ≡ Some x → n ≤ x → object_of n n ≡ object_from n (folded (slice a e s))
       unfolding object_of
       object_large x y l = none_of n ∙ sym (sym (object_is x y) ∙ rw (le-ltb x n l) refl)
 

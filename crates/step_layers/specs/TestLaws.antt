@@ -62,11 +62,11 @@ module _ (w : List ℕ) (s : State) (a : Act) (k : ℕ) (e : k ≡ kind_of a) wh
 
 -- ---- of a number
 module _ (p : Problem) (k : ℕ) (a : Act) (e : a ≡ act_of (action_at p k)) where
-  no_action : is_nothing a ≡ true → false ≡ is_action p k
+  pub no_action : is_nothing a ≡ true → false ≡ is_action p k
   unfolding is_action option
   no_action h = rw (is_none (action_at p k) (sym (ap is_nothing e) ∙ h)) refl
 
-  an_action : is_nothing a ≡ false → true ≡ is_action p k
+  pub an_action : is_nothing a ≡ false → true ≡ is_action p k
   unfolding is_action option
   an_action h = let f = is_some p k a e h in rw f.at refl
 

@@ -572,22 +572,18 @@ fn call_on_picks(word: &[u8], question: &[u8], site: &[u8], lent: &[u64], n: [us
     }
 }
 
-// The same for calls on lent steps, with where their layers end and with lists of them.
+// The same for calls on lent steps, and lists of them.
 fn call_on_steps(
     word: &[u8],
     question: &[u8],
     site: &[u8],
     steps: &[u32],
-    ends: &[u32],
     lists: &[u32],
     n: [usize; 4],
 ) -> bool {
     match word {
         b"check" => on_state(n[0], |state| {
             call_check::check_lent(question, site, steps, state)
-        }),
-        b"check_layers" => on_state(n[0], |state| {
-            call_check_layers::check_layers(question, site, steps, ends, state)
         }),
         b"picks" => on_reading(n, |picks, state| {
             call_read::picks_lent(question, site, steps, picks, state)
@@ -601,30 +597,45 @@ fn call_on_steps(
     }
 }
 
-// Makes the call of a line on what is lent as picks.
-fn make_with_picks(t: Script, word: &[u8], n: [usize; 4]) -> bool {
-    let mut lent = [0u64; NUMBERS];
-    let Some(lent) = numbers(t.lent, &mut lent) else {
-        return false;
-    };
-    call_on_picks(word, t.question, t.site, lent, n)
-}
-
 // Makes the call of a line on what is lent as steps.
 fn make_with_steps(t: Script, word: &[u8], n: [usize; 4]) -> bool {
     let mut steps = [0u32; NUMBERS];
-    let mut ends = [0u32; NUMBERS];
     let mut lists = [0u32; NUMBERS];
+    let Some(steps) = numbers(t.lent, &mut steps) else {
+        return false;
+    };
+    let Some(lists) = numbers(t.lists, &mut lists) else {
+        return false;
+    };
+    call_on_steps(word, t.question, t.site, steps, lists, n)
+}
+
+// Makes the call of a line on what is lent, as picks or as steps. Lists are numbers for all of these calls.
+fn make_lent(t: Script, word: &[u8], n: [usize; 4]) -> bool {
+    let mut lent = [0u64; NUMBERS];
+    let mut lists = [0u64; NUMBERS];
+    let Some(lent) = numbers(t.lent, &mut lent) else {
+        return false;
+    };
+    if numbers(t.lists, &mut lists).is_none() {
+        return false;
+    }
+    call_on_picks(word, t.question, t.site, lent, n) || make_with_steps(t, word, n)
+}
+
+// Checks layers: the lent steps, and where they end.
+fn make_layers(t: Script, n: [usize; 4]) -> bool {
+    let mut steps = [0u32; NUMBERS];
+    let mut ends = [0u32; NUMBERS];
     let Some(steps) = numbers(t.lent, &mut steps) else {
         return false;
     };
     let Some(ends) = numbers(t.ends, &mut ends) else {
         return false;
     };
-    let Some(lists) = numbers(t.lists, &mut lists) else {
-        return false;
-    };
-    call_on_steps(word, t.question, t.site, steps, ends, lists, n)
+    on_state(n[0], |state| {
+        call_check_layers::check_layers(t.question, t.site, steps, ends, state)
+    })
 }
 
 // Makes the call of a line: its word, and its numbers, of which no call has more than three.
@@ -633,10 +644,15 @@ fn make(t: Script, word: &[u8], rest: &[u8]) -> bool {
     if numbers(rest, &mut n).is_none() {
         return false;
     }
-    call_on_case(word, t.question, t.site, n)
+    if call_on_case(word, t.question, t.site, n)
         || call_on_text(word, t.question, t.site, t.text, n)
-        || make_with_picks(t, word, n)
-        || make_with_steps(t, word, n)
+    {
+        return true;
+    }
+    match word {
+        b"check_layers" => make_layers(t, n),
+        _ => make_lent(t, word, n),
+    }
 }
 
 // A line below `question`, `site` or `text`, from `at` on: the text whose lines begin at `from` ends before a line with a full stop.
@@ -774,43 +790,45 @@ fn write_desk(name: &[u8], input: &[u8]) {
 }
 
 // Reads an input that has as many bytes as `input`, writes its reply, and tells whether it was there.
-fn desk(file: &mut File, name: &[u8], input: &mut [u8]) -> std::io::Result<bool> {
-    if read_input::read_input(file, input)? < input.len() {
-        return Ok(false);
+fn desk(file: &mut File, name: &[u8], input: &mut [u8]) -> bool {
+    if read_input::read_input(file, input).unwrap_or(0) < input.len() {
+        return false;
     }
     write_desk(name, input);
-    Ok(true)
+    true
 }
 
 // Reads one header (a name of four bytes, a tab, five digits for the length of the input, a line's end) and its input, and tells whether
-// there was one.
-fn run_input(file: &mut File) -> std::io::Result<bool> {
+// there was one. Where a read fails there is none.
+fn run_input(file: &mut File) -> bool {
     let mut head = [0u8; 11];
-    if read_input::read_input(file, &mut head)? < 11 {
-        return Ok(false);
+    if read_input::read_input(file, &mut head).unwrap_or(0) < 11 {
+        return false;
     }
     let mut input = [0u8; 100000];
     match input.get_mut(..length_in(head)) {
         Some(input) => desk(file, &head[..4], input),
-        None => Ok(false),
+        None => false,
     }
 }
 
 // There are no more than 10,000 names of four digits.
-fn run_inputs(file: &mut File) -> std::io::Result<()> {
+fn run_inputs(file: &mut File) {
     for _ in 0..10000 {
-        if !run_input(file)? {
+        if !run_input(file) {
             break;
         }
     }
-    Ok(())
 }
 
 fn main(rt: HostRuntime) -> std::io::Result<()> {
     let mut script = [0u8; SCRIPT];
     run_script(&mut script);
     match File::open(&rt, "inputs") {
-        Ok(mut file) => run_inputs(&mut file),
+        Ok(mut file) => {
+            run_inputs(&mut file);
+            Ok(())
+        }
         Err(error) => eprintln!(rt; "inputs: {error}"),
     }
 }

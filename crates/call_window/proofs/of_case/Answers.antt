@@ -50,8 +50,8 @@ returns-then-m c =
     (window_every usual _ site _ facts (x, e, h)
     (within_usual x _ T _ c.usual_limits.ensures c.in_ok-within.ensures) _ (every_told x _ T) c.if-m.true)
 
-pub of_tables-requires : goal.of_tables-requires
-of_tables-requires c = (c.nodes_of-t.ensures.fits, c.ranges_of-ranges.ensures.0)
+pub of_tables-w-requires : goal.of_tables-w-requires
+of_tables-w-requires c = (c.nodes_of-t.ensures.fits, c.ranges_of-ranges.ensures.0)
 
 pub returns : goal.returns
 returns c =
@@ -60,5 +60,5 @@ returns c =
     window_told usual _ site _ facts (x, e, h)
     (within_usual x _ T _ c.usual_limits.ensures c.in_ok-within.ensures) _ (every_told x _ T)
     (omega arith) c.if-m.false _
-    (λ y A i. c.of_tables.ensures (problem_of y) _ _ _ (good y A) c.ranges_of-ranges.ensures.1
+    (λ y A i. c.of_tables-w.ensures (problem_of y) _ _ _ (good y A) c.ranges_of-ranges.ensures.1
     (inputs _ _ y facts i _ _ c.relations_of-g.ensures.1 c.nodes_of-t.ensures))

@@ -16,4 +16,6 @@ least k = by_number (dec_lt k 6)
     by_number (no h) = let e : min k 6 ≡ 6 = omega arith in e ∙ kind_last k (omega arith)
 
 pub returns : goal.returns
-returns c = (c.min.ensures ∙ least c.args.k, omega (arith, c.min.ensures))
+returns c =
+    let e : c.min.result ≡ min c.args.k 6 = omega (arith, c.min.ensures) in
+    (e ∙ least c.args.k, omega (arith, c.min.ensures))

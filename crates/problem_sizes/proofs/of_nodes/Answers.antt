@@ -19,7 +19,7 @@ row_is t i h = get_or-take t.count t.rows i no_node (omega (arith, length-take t
 -- the counts so far
 counts-small : (c : At-loop-row) → (c.loop-row.atoms ≤ 2 ^ 36) × (c.loop-row.actions ≤ 2 ^ 36)
 counts-small c = node_counts c.args.n c.requires.1 c.args.ranges.count c.args.t c.requires.3.count c.requires.2
-    c.loop-row.row-index c.loop-row.row-index c.loop-row.atoms c.loop-row.actions (omega arith) c.loop-row.invariant
+    c.loop-row.row-index c.loop-row.nodes c.loop-row.atoms c.loop-row.actions (omega arith) c.loop-row.invariant
 
 -- how many values its free variables have
 rows_are : (c : After-power-rows) → c.power-rows.result ≡ c.args.n ^ (get_or c.args.t.rows c.loop-row.row-index no_node).width
@@ -81,10 +81,16 @@ overflow_mul-actions c = omega (arith, acts_small (goal.at.overflow_mul-actions 
 pub overflow_add-actions : goal.overflow_add-actions
 overflow_add-actions c = omega (arith, (counts-small (goal.at.overflow_add-actions c).At-loop-row).1, acts_small (goal.at.overflow_add-actions c).After-choices (rows_are (goal.at.overflow_add-actions c).After-power-rows))
 
+-- as many as came before, and there are at most 64
+pub overflow_add-nodes : goal.overflow_add-nodes
+overflow_add-nodes c = omega (arith, c.loop-row.invariant.visited, c.loop-row-test.true, length-take c.args.t.count c.args.t.rows, c.requires.2.few)
+
 pub loop-row-preserved : goal.loop-row-preserved
 loop-row-preserved c =
-    nodes_next c.args.n c.args.ranges.count c.args.t c.loop-row.row-index c.loop-row.atoms c.loop-row.actions c.power-rows.result c.node_width-atoms.result c.choices.result
-    (rows_are ((goal.at.loop-row-preserved c).After-power-rows)) (row-width ((goal.at.loop-row-preserved c).After-node_width-atoms)) (row-choices c) c.loop-row.invariant
+    let at = goal.at.loop-row-preserved c in
+    let s = nodes_next c.args.n c.args.ranges.count c.args.t c.loop-row.row-index c.loop-row.nodes c.loop-row.atoms c.loop-row.actions c.power-rows.result c.node_width-atoms.result c.choices.result
+    (rows_are at.After-power-rows) (row-width at.After-node_width-atoms) (row-choices c) c.loop-row.invariant in
+    record { visited = s.visited; atoms_are = omega (arith, s.atoms_are); actions_are = s.actions_are }
 
 pub returns : goal.returns
 returns c =
