@@ -129,23 +129,13 @@ fn show_bytes(out: &[u8]) {
     }
 }
 
-// A number of 32 bits in hexadecimal.
-fn show_hex(k: u64) {
-    show_bytes(&((k % 4294967296) as u32).to_be_bytes());
-}
-
-// A text by its digest.
+// A text by its digest: eight numbers of 32 bits.
 fn show_digest(text: &[u8]) {
     let x = test_digest::sha256(text);
     io::write_all(1, b" sha256:");
-    show_hex(x.a);
-    show_hex(x.b);
-    show_hex(x.c);
-    show_hex(x.d);
-    show_hex(x.e);
-    show_hex(x.f);
-    show_hex(x.g);
-    show_hex(x.h);
+    for k in [x.a, x.b, x.c, x.d, x.e, x.f, x.g, x.h] {
+        show_bytes(&((k % 4294967296) as u32).to_be_bytes());
+    }
 }
 
 // The digest of numbers in decimal, a space between any two.

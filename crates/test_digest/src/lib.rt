@@ -36,7 +36,7 @@ fn padded(text: &[u8], total: usize, i: usize) -> u64 {
     }
     let left = total - i;
     if left <= 4 {
-        return (((n as u64) % 268435456 * 8) >> (8 * (left - 1))) % 256;
+        return (((n as u64) % 536870912 * 8) >> (8 * (left - 1))) % 256;
     }
     0
 }
@@ -143,7 +143,7 @@ fn block(start: Digest, text: &[u8], total: usize, at: usize) -> Digest
     joined(x, start)
 }
 
-// The digest of a text; of one of more than 2^28 bytes, that of none of it.
+// The digest of a text; of one of more than 2^28 bytes, what a digest begins with.
 pub fn sha256(text: &[u8]) -> Digest {
     let mut x = Digest {
         a: 1779033703,
